@@ -1,0 +1,5 @@
+pub mod ToldLemmas
+pub mod Reading
+pub mod SendingLemmas
+pub mod Places
+pub mod Writing

@@ -1,0 +1,9 @@
+pub mod Counts
+pub mod Told
+pub mod Disk
+pub mod Sending
+pub mod Calls
+pub mod MemorySink
+pub mod StoredFile
+pub mod MemoryFiles
+pub mod FileList
