@@ -1,0 +1,11 @@
+pub mod Runs
+pub mod FirstBytes
+pub mod Characters
+pub mod Longest
+pub mod Numbers
+pub mod Quoted
+pub mod Gaps
+pub mod Pieces
+pub mod Once
+pub mod Lines
+pub mod Steps
