@@ -1,0 +1,11 @@
+pub mod Options
+pub mod Pieces
+pub mod Words
+pub mod LineTexts
+pub mod LineForms
+pub mod Runs
+pub mod FileLines
+pub mod Parts
+pub mod Exact
+pub mod Telling
+pub mod Wires
