@@ -1,0 +1,10 @@
+pub mod Order
+pub mod Rows
+pub mod Keys
+pub mod Added
+pub mod Leaves
+pub mod Steps
+pub mod Xors
+pub mod Determined
+pub mod Facts
+pub mod Turned

@@ -1,0 +1,47 @@
+-- The exclusive or of two terms the other way round.
+use Rattle.std.proofs.Common.{◌≡◌, Option, None, Some, unwrap_or, Ordering, Less, Equal, Greater, ◌⊎◌, inl, inr, refl, sym, ap, ◌∙◌, ⊎_elim}
+use Rattle.std.specs.Ordering.{ordering_reverse}
+use Rattle.std.proofs.lemmas.Bool.{cases_Bool}
+use Rattle.expr_table.specs.Term.{Term, Zero, One, Xor, term_cmp, is_same, xor_of, without_one, ordered_xor}
+use Rattle.expr_table.proofs.Order.{is_same-exact, is_same-equal, cmp_exact, cmp_antisymm}
+use Rattle.expr_table.proofs.Xors.{xor_of-same, xor_of-zero_left, xor_of-zero_right, xor_of-other, ordered_xor-Greater, ordered_xor-Less}
+
+same_or_not : (s t : Term) → (s ≡ t) ⊎ (s ≡ t → ⊥)
+same_or_not s t = ⊎_elim (λ e. inl (is_same-exact s t e)) (λ e. inr (λ same. let yes = is_same-equal s t same in cc)) (cases_Bool (is_same s t))
+
+without_one-once : (a b c : Term) → without_one a b ≡ Some c → without_one b a ≡ None
+without_one-once One (Xor x d) c e = refl
+without_one-once _ _ c e = cc
+
+ordered_xor-turned : (a b : Term) → (a ≡ b → ⊥) → ordered_xor a b ≡ ordered_xor b a
+ordered_xor-turned a b other = by (term_cmp a b) refl
+  where
+    by : (o : Ordering) → term_cmp a b ≡ o → ordered_xor a b ≡ ordered_xor b a
+    by Less e = ordered_xor-Less a b e ∙ sym (ordered_xor-Greater b a (cmp_antisymm b a ∙ ap ordering_reverse e))
+    by Greater e = ordered_xor-Greater a b e ∙ sym (ordered_xor-Less b a (cmp_antisymm b a ∙ ap ordering_reverse e))
+    by Equal e = absurd (other (cmp_exact a b e))
+
+last-turned : (a b : Term) → (a ≡ b → ⊥)
+    → unwrap_or (without_one a b) (unwrap_or (without_one b a) (ordered_xor a b)) ≡ unwrap_or (without_one b a) (unwrap_or (without_one a b) (ordered_xor b a))
+last-turned a b other = by (without_one a b) refl
+  where
+    by : (o : Option Term) → without_one a b ≡ o
+        → unwrap_or (without_one a b) (unwrap_or (without_one b a) (ordered_xor a b)) ≡ unwrap_or (without_one b a) (unwrap_or (without_one a b) (ordered_xor b a))
+    by (Some c) e =
+        ap (λ o. unwrap_or o (unwrap_or (without_one b a) (ordered_xor a b))) e ∙ sym (ap (λ o. unwrap_or o (ordered_xor b a)) e)
+        ∙ sym (ap (λ o. unwrap_or o (unwrap_or (without_one a b) (ordered_xor b a))) (without_one-once a b c e))
+    by None e =
+        ap (λ o. unwrap_or o (unwrap_or (without_one b a) (ordered_xor a b))) e ∙ ap (unwrap_or (without_one b a)) (ordered_xor-turned a b other)
+        ∙ sym (ap (λ o. unwrap_or (without_one b a) (unwrap_or o (ordered_xor b a))) e)
+
+pub xor_of-turned : (a b : Term) → xor_of a b ≡ xor_of b a
+xor_of-turned a b =
+    ⊎_elim (λ e. xor_of-same a b e ∙ sym (xor_of-same b a (sym e)))
+    (λ other. ⊎_elim
+    (λ left. xor_of-zero_left a b other left ∙ sym (xor_of-zero_right b a (λ e. other (sym e)) (λ e. other (left ∙ sym e)) left))
+    (λ left. ⊎_elim
+    (λ right. xor_of-zero_right a b other left right ∙ sym (xor_of-zero_left b a (λ e. other (sym e)) right))
+    (λ right. xor_of-other a b other left right ∙ last-turned a b other ∙ sym (xor_of-other b a (λ e. other (sym e)) right left))
+    (same_or_not b Zero))
+    (same_or_not a Zero))
+    (same_or_not a b)

@@ -1,0 +1,6 @@
+pub mod Term
+pub mod Table
+pub mod Places
+pub mod Steps
+pub mod Simplified
+pub mod Instance

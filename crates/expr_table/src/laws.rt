@@ -1,0 +1,30 @@
+//! What a reader may want to know of the definitions. Each law is a contract over all terms or all
+//! tables; its body is empty.
+ghost use Rattle.std.specs.Prelude.{◌≡◌, ◌↔◌, ℕ};
+ghost use Rattle.std.specs.Cmp.{IsTotalOrder};
+ghost use Rattle.std.specs.declared.cmp.Ordering.TheVariants.{Equal};
+ghost use Rattle.expr_table.specs.Table.{Table, IsTable, IsRowOf, terms, nodes_of};
+ghost use Rattle.expr_table.specs.Term.{Term, term_cmp, xor_of};
+
+/// The structural order is a total order on terms, and only a term is equal to itself in it.
+pub fn structural_order()
+    ensures total { IsTotalOrder term_cmp }
+    ensures equal { (s t : Term) → (term_cmp s t ≡ Equal) ↔ (s ≡ t) }
+{}
+
+/// The simplified exclusive or of two terms does not depend on which stands first.
+pub fn exclusive_or()
+    ensures { (a b : Term) → xor_of a b ≡ xor_of b a }
+{}
+
+/// A term has at most one row in a table.
+pub fn one_row_each()
+    ensures { (table : Table) (row other : ℕ) (t : Term)
+        → IsTable table → IsRowOf table.nodes row t → IsRowOf table.nodes other t → row ≡ other }
+{}
+
+/// The terms of a table's rows determine its nodes: each is that of its term, its sides at their places
+/// among the terms.
+pub fn terms_give_nodes()
+    ensures { (table : Table) → IsTable table → table.nodes ≡ nodes_of (terms table.nodes) }
+{}
