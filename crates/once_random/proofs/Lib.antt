@@ -1,0 +1,14 @@
+pub mod LiveRows
+pub mod Sides
+pub mod Marking
+pub mod Counting
+pub mod Alone
+pub mod Shown
+pub mod Least
+pub mod Chains
+pub mod RootRows
+pub mod LeafCounts
+pub mod Saturated
+pub mod LeastChain
+pub mod Provable
+pub mod OneProbe

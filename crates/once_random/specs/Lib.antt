@@ -1,0 +1,7 @@
+pub mod Numbers
+pub mod Live
+pub mod Cuts
+pub mod Groups
+pub mod Tuples
+pub mod Sets
+pub mod Flags

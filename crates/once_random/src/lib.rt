@@ -1,0 +1,36 @@
+//! Deciding by randoms that are used once whether probes see too much.
+//!
+//! A *tuple* of probes sees rows of an instance's table, its *roots*. A row is *live* where the roots
+//! read it. An Xor one of whose sides is a random that nothing else reads is as good as that random,
+//! whatever its other side is: a *cut* of the row stops reading there, and the row counts as a random
+//! from then on (optimistic sampling; Barthe et al., EUROCRYPT 2015). A *chain* is a list of cuts, each
+//! allowed after those before it, and the *least chain* always cuts the live row of least number. Where
+//! it leaves few enough input leaves of each secret live, the tuple is *proved*.
+//!
+//! [`chain`] makes the least chain, [`leaves_within`] counts what some cuts leave live, and
+//! [`is_proved`] does both. Tuples are sets of probes, as [`BitRow`]s. The calls work in a [`Scratch`],
+//! which is made once for an instance.
+#![tactic(auto)]
+
+use std::alloc::AllocError;
+
+mod bit_row;
+mod bounds;
+mod engine;
+mod laws;
+mod least_chain;
+mod leaves;
+mod live;
+mod next_cut;
+mod parents;
+mod roots;
+mod scratch;
+
+pub use bit_row::BitRow;
+pub use bounds::bound;
+pub use engine::{chain, is_proved, leaves_within};
+pub use laws::{least_chain_is_full, least_chain_leaves_least, live_is_least, proved_is_provable};
+pub use scratch::Scratch;
+
+/// Memory was refused.
+pub type NoMemory = AllocError;
