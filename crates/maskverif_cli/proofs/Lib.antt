@@ -1,0 +1,14 @@
+pub mod Taken
+pub mod Texts
+pub mod Counting
+pub mod Fronts
+pub mod Rows
+pub mod Assembled
+pub mod Singles
+pub mod Sizes
+pub mod Due
+pub mod OneAnswer
+pub mod GateValues
+pub mod LeafValues
+pub mod SignalValues
+pub mod ShareValues

@@ -1,0 +1,58 @@
+-- What the terms mean: where wires have values that the gates follow, each signal's term has its wire's value.
+use Rattle.std.specs.Prelude.{ℕ, ◌≡◌, Bool, true, false, not, ◌&&◌, List, map, filter, fold, slice_index_or, All}
+use Rattle.std.specs.Str.{bytes_eq}
+use Rattle.expr_table.specs.Term.{Term, Zero, One, Input, Random, And, Xor}
+use Rattle.narrow_netlist.specs.declared.netlist.Netlist.{Netlist}
+use Rattle.narrow_netlist.specs.declared.netlist.InputWire.{InputWire}
+use Rattle.narrow_netlist.specs.declared.netlist.XorCell.{XorCell}
+use Rattle.narrow_netlist.specs.declared.netlist.Note.{Note}
+use Rattle.narrow_netlist.specs.declared.netlist.Note.TheVariants as note
+use Rattle.narrow_netlist.specs.Narrow.{IsNarrow}
+use Rattle.maskverif_cli.specs.Standing.{Signal, signals, secrets, is_random_leaf}
+
+abbrev pub xor : Bool → Bool → Bool
+xor true b = not b
+xor false b = b
+
+abbrev pub bit : List Bool → ℕ → Bool
+bit bits i = slice_index_or bits i false
+
+-- the value of a term, where the input leaves and the random leaves have these bits
+abbrev pub eval : List Bool → List Bool → Term → Bool
+eval inputs randoms Zero = false
+eval inputs randoms One = true
+eval inputs randoms (Input i) = bit inputs i
+eval inputs randoms (Random i) = bit randoms i
+eval inputs randoms (And a b) = eval inputs randoms a && eval inputs randoms b
+eval inputs randoms (Xor a b) = xor (eval inputs randoms a) (eval inputs randoms b)
+
+-- each wire has the value that its name is given, and each gate drives its wire with the exclusive or of its sides
+abbrev pub Follows : Netlist → (List ℕ → Bool) → Type 0
+Follows netlist value = All (λ (cell : XorCell). value cell.y ≡ xor (value cell.a) (value cell.b)) netlist.cells
+
+-- the note is that of a share of this secret
+abbrev pub is_share_of : List ℕ → Note → Bool
+is_share_of secret note.Random = false
+is_share_of secret (note.Share share) = bytes_eq share.secret secret
+
+-- the values of the inputs, in order
+abbrev pub values_of : (List ℕ → Bool) → List InputWire → List Bool
+values_of value wires = map (λ (wire : InputWire). value wire.name) wires
+
+-- the value of a secret: the exclusive or of its shares
+abbrev pub secret_bit : (List ℕ → Bool) → List InputWire → List ℕ → Bool
+secret_bit value inputs secret = fold xor false (values_of value (filter (λ (wire : InputWire). is_share_of secret wire.note) inputs))
+
+-- the bits of the secrets, and of the random leaves
+abbrev pub secret_bits : (List ℕ → Bool) → List InputWire → List Bool
+secret_bits value inputs = map (secret_bit value inputs) (secrets inputs)
+
+abbrev pub random_bits : (List ℕ → Bool) → List InputWire → List Bool
+random_bits value inputs = values_of value (filter is_random_leaf inputs)
+
+-- the signal's term has its wire's value
+abbrev pub HasValue : (List ℕ → Bool) → List InputWire → Signal → Type 0
+HasValue value inputs signal = eval (secret_bits value inputs) (random_bits value inputs) signal.term ≡ value signal.name
+
+abbrev pub TermsGiveValues : Type 0
+TermsGiveValues = (bytes : List ℕ) (netlist : Netlist) (value : List ℕ → Bool) → IsNarrow bytes netlist → Follows netlist value → All (HasValue value netlist.inputs) (signals netlist)

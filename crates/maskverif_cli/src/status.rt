@@ -1,0 +1,54 @@
+ghost use Rattle.std.specs.Prelude.{◌≡◌};
+
+use arrayvec::ArrayVec;
+
+/// Numbers of probes, ascending and without repeats.
+pub type Tuple = ArrayVec<u32, 8>;
+
+/// Why a netlist is refused.
+#[derive(Clone, Copy, Debug, PartialEq, Eq)]
+pub enum Refusal {
+    /// The text is not a narrow netlist, and no others are read yet.
+    NotYet,
+}
+
+/// How a command ended.
+#[derive(Debug, Drop)]
+pub enum Status {
+    /// The rules prove each tuple of probes.
+    Secure,
+    /// The first tuple of probes that the rules do not prove.
+    Unproved(Tuple),
+    /// The words are no command.
+    Usage,
+    /// The netlist is not accepted.
+    Refused(Refusal),
+    /// There is no file of the netlist's name.
+    NoFile,
+    /// A call to the files failed while the netlist was read.
+    ReadFault,
+    /// A call to the sink failed while it took the report.
+    WriteFault,
+    /// Memory was refused. The sink and the files hold what they held.
+    NoMemory,
+}
+
+impl Status {
+    ghost use Rattle.maskverif_cli.specs.Status.{exit_code};
+
+    /// The exit status of the program.
+    pub fn code(&self) -> u8
+        ensures { result ≡ exit_code self.now }
+    {
+        match self {
+            Status::Secure => 0,
+            Status::Unproved(_) => 1,
+            Status::Usage => 2,
+            Status::Refused(_) => 3,
+            Status::NoFile => 4,
+            Status::ReadFault => 5,
+            Status::WriteFault => 6,
+            Status::NoMemory => 7,
+        }
+    }
+}
