@@ -63,16 +63,16 @@ module _ (name : List ℕ) where
     pub files : now.files ≡ first.files
     pub whole : file_of name first ≡ Some bytes
 
-  ended_told : (bytes buffer : List ℕ) → 0 < length buffer → (x y z : Disk) → Halfway name bytes x y → Reads 0 buffer y z → All bytes x z
-  ended_told bytes buffer room x y z h r =
+  ended_told : (bytes buffer : List ℕ) (x y z : Disk) → Halfway name bytes x y → Reads 0 buffer y z → All bytes x z
+  ended_told bytes buffer x y z h r =
       let same : r.unread ≡ h.unread = let e : Some r.unread ≡ Some h.unread = sym r.was ∙ h.left in cc in
       record {
         files = r.files ∙ h.files;
-        whole = h.whole ∙ ap (λ (l : List ℕ). Some (bytes ++ l)) (sym same ∙ r.end refl room) ∙ ap (λ (l : List ℕ). Some l) (append-nil bytes);
+        whole = h.whole ∙ ap (λ (l : List ℕ). Some (bytes ++ l)) (sym same ∙ r.end refl) ∙ ap (λ (l : List ℕ). Some l) (append-nil bytes);
       }
 
-  pub ended : (bytes buffer : List ℕ) → 0 < length buffer → (a b c : Option Disk) → WhereTold (Halfway name bytes) a b → WhereTold (Reads 0 buffer) b c → WhereTold (All bytes) a c
-  ended bytes buffer room a b c h r = told_then (Halfway name bytes) (Reads 0 buffer) (All bytes) (ended_told bytes buffer room) a b c h r
+  pub ended : (bytes buffer : List ℕ) (a b c : Option Disk) → WhereTold (Halfway name bytes) a b → WhereTold (Reads 0 buffer) b c → WhereTold (All bytes) a c
+  ended bytes buffer a b c h r = told_then (Halfway name bytes) (Reads 0 buffer) (All bytes) (ended_told bytes buffer) a b c h r
 
   pub all_whole : (bytes : List ℕ) (a b : Option Disk) → WhereTold (All bytes) a b → IsWhole name a bytes
   all_whole bytes a b h = told_first (All bytes) (λ (d : Disk). file_of name d ≡ Some bytes) (λ (x y : Disk) (o : All bytes x y). o.whole) a b h

@@ -32,13 +32,13 @@ pub record Opens (name : List ℕ) (found : Bool) (old new : Disk) : Type 0 wher
   pub left : new.left ≡ file_of name old
   pub created : new.created ≡ None
 
--- the next n bytes are read into a buffer that has room: none only at the end of the file
+-- the next n bytes are read into the buffer: none only at the end of the file
 pub record Reads (n : ℕ) (buffer : List ℕ) (old new : Disk) : Type 0 where
   pub unread : List ℕ
   pub was : old.left ≡ Some unread
   pub within : n ≤ length unread
   pub bytes : take n buffer ≡ take n unread
-  pub end : n ≡ 0 → 0 < length buffer → unread ≡ []
+  pub end : n ≡ 0 → unread ≡ []
   pub left : new.left ≡ Some (drop n unread)
   pub created : new.created ≡ old.created
   pub files : new.files ≡ old.files

@@ -8,7 +8,7 @@ use Rattle.std.specs.declared.vec.Vec.{Vec}
 use Rattle.mv_files.specs.Counts.{counted}
 use Rattle.mv_files.specs.Calls.{CallCount, is_failing, after_call}
 use Rattle.mv_files.specs.Disk.{Disk, file_of}
-use Rattle.mv_files.specs.StoredFile.{longest_name}
+use Rattle.mv_files.specs.StoredFile.{most_name_bytes}
 
 pub record FilesState : Type 0 where
   pub disk : Disk
@@ -97,7 +97,7 @@ buffer_after buffer files =
 -- creating a file
 
 abbrev pub create_fails : List ℕ → FilesState → Bool
-create_fails name files = is_failing files.calls || nat_lt longest_name (length name) || (files.makes == 0)
+create_fails name files = is_failing files.calls || nat_lt most_name_bytes (length name) || (files.makes == 0)
 
 abbrev pub created : List ℕ → Disk → Disk
 created name disk = record { files = put name [] disk.files; left = None; created = Some name }

@@ -14,6 +14,6 @@ told_of file = (file.name, file.bytes)
 abbrev pub no_file : Stored
 no_file = record { name = []; bytes = []; room = 0 }
 
--- names of created files have at most so many bytes
-abbrev pub longest_name : ℕ
-longest_name = 256
+-- the name of a created file has at most so many bytes
+abbrev pub most_name_bytes : ℕ
+most_name_bytes = 256

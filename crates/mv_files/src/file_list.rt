@@ -6,8 +6,8 @@ ghost use Rattle.mv_files.specs.StoredFile.{told_of, no_file};
 ghost use Rattle.mv_files.specs.MemoryFiles.{listed_of, put};
 ghost use Rattle.mv_files.specs.FileList.{place_of, IsAt, IsNowhere};
 
-use crate::failed::NoMemory;
 use crate::stored_file::{Slot, StoredFile};
+use sequences::NoMemory;
 use std::alloc::Global;
 
 /// These files, in a list that has places for `makes` more.

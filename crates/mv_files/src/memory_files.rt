@@ -1,19 +1,20 @@
 //! Files in memory, for tests.
 
-ghost use Rattle.std.specs.Prelude.{◌≡◌, ◌≤◌, ◌+◌, false, is_ok, take, length, IfOk, OnOk, OnErr, IsTrue, Some, is_err, is_some};
+ghost use Rattle.std.specs.Prelude.{◌≡◌, ◌<◌, ◌≤◌, ◌+◌, false, is_ok, take, length, IfOk, OnOk, OnErr, IsTrue, Some, is_err, is_some};
 ghost use Rattle.std.specs.Result.{result_ok, result_unwrap_or};
 ghost use Rattle.std.specs.Option.{option_map};
 ghost use Rattle.std.specs.Io.{ReadsAtMost};
 ghost use Rattle.mv_files.specs.Counts.{CountsFaults};
-ghost use Rattle.mv_files.specs.Disk.{file_of, SameFiles, Closes, Opens, Reads, Creates, Appends};
+ghost use Rattle.mv_files.specs.Disk.{file_of, Closes, Opens, Reads, Creates, Appends};
 ghost use Rattle.mv_files.specs.Sending.{TakesSome};
 ghost use Rattle.mv_files.specs.MemoryFiles.{HasDistinctNames, listed_of, fresh_files, open_answer, after_open, read_answer, after_read, buffer_after, create_fails, after_create, write_answer, after_write};
 
 use crate::calls::Calls;
-use crate::failed::{Failed, NoMemory};
+use crate::failed::Failed;
 use crate::file_list::{find, put, slots, stored_files};
 use crate::files::Files;
-use crate::stored_file::{LONGEST_NAME, Slot, StoredFile};
+use crate::stored_file::{MOST_NAME_BYTES, Slot, StoredFile};
+use sequences::NoMemory;
 use std::alloc::Global;
 use std::marker::Model;
 
@@ -53,7 +54,7 @@ impl Model for MemoryFiles {
 
 impl MemoryFiles {
     /// Files of these names and bytes. A call reads or writes at most `piece` bytes. `makes` files of `room` bytes each may
-    /// be created, with names of at most 256 bytes.
+    /// be created, with names of at most [`MOST_NAME_BYTES`] bytes.
     ///
     /// A call fails where its number stands in `failing`, the first having the number 0. A `create` fails also where
     /// `makes` files were created before or the name is too long, and a `write` where the file has no room left.
@@ -127,7 +128,8 @@ impl Files for MemoryFiles {
     }
 
     fn read(&mut self, buf: &mut [u8]) -> Result<usize, Failed>
-        requires { IsTrue (is_some self.old.disk.left) }
+        requires reading { IsTrue (is_some self.old.disk.left) }
+        requires some { 0 < length buf.old }
         ensures answer { result_ok result ≡ read_answer (length buf.old) self.old }
         ensures state { self.new ≡ after_read (length buf.old) self.old }
         ensures buffer { buf.new ≡ buffer_after buf.old self.old }
@@ -135,7 +137,7 @@ impl Files for MemoryFiles {
         // What all files promise.
         ensures bound { ReadsAtMost result buf.new }
         ensures reads { IfOk result (λ n. Reads n buf.new self.old.disk self.new.disk) }
-        ensures unread { OnErr result (SameFiles self.old.disk self.new.disk) }
+        ensures unread { OnErr result (self.new.disk ≡ self.old.disk) }
         ensures reading { IsTrue (is_some self.new.disk.left) }
         ensures writing { is_some self.new.disk.created ≡ is_some self.old.disk.created }
         ensures faults { CountsFaults self.old.read_faults self.new.read_faults result }
@@ -172,7 +174,7 @@ impl Files for MemoryFiles {
     {
         self.open = Open::Nothing;
         let fails = self.calls.fails();
-        if fails || name.len() > LONGEST_NAME || self.unused.is_empty() {
+        if fails || name.len() > MOST_NAME_BYTES || self.unused.is_empty() {
             self.write_faults = self.write_faults.saturating_add(1);
             return Err(Failed);
         }
@@ -183,7 +185,8 @@ impl Files for MemoryFiles {
     }
 
     fn write(&mut self, bytes: &[u8]) -> Result<usize, Failed>
-        requires { IsTrue (is_some self.old.disk.created) }
+        requires writing { IsTrue (is_some self.old.disk.created) }
+        requires some { 0 < length bytes.now }
         ensures answer { result_ok result ≡ write_answer bytes.now self.old }
         ensures state { self.new ≡ after_write bytes.now self.old }
 

@@ -1,6 +1,6 @@
 //! A sink in memory, for tests.
 
-ghost use Rattle.std.specs.Prelude.{◌≡◌, ◌≤◌, ◌+◌, take, length, IfOk, OnErr, Some};
+ghost use Rattle.std.specs.Prelude.{◌≡◌, ◌<◌, ◌≤◌, ◌+◌, take, length, IfOk, OnErr, Some};
 ghost use Rattle.std.specs.Result.{result_ok};
 ghost use Rattle.mv_files.specs.MemorySink.{empty_sink, write_answer, after_write};
 ghost use Rattle.mv_files.specs.Counts.{CountsFaults};
@@ -8,8 +8,9 @@ ghost use Rattle.mv_files.specs.Told.{WhereTold};
 ghost use Rattle.mv_files.specs.Sending.{TakesSome, Adds};
 
 use crate::calls::Calls;
-use crate::failed::{Failed, NoMemory};
+use crate::failed::Failed;
 use crate::sink::Sink;
+use sequences::NoMemory;
 use std::alloc::Global;
 use std::marker::Model;
 
@@ -70,6 +71,7 @@ impl Sink for MemorySink {
     ghost faults = { λ sink. sink.faults };
 
     fn write(&mut self, bytes: &[u8]) -> Result<usize, Failed>
+        requires { 0 < length bytes.now }
         ensures answer { result_ok result ≡ write_answer bytes.now self.old }
         ensures state { self.new ≡ after_write bytes.now self.old }
 

@@ -19,13 +19,15 @@ impl From<Failed> for WriteFault {
     }
 }
 
-/// Sends all the bytes, in as many calls as it takes. After a fault the sink has taken a first part of them.
+/// Sends all the bytes, in as many calls as it takes: none for an empty text, and none after all was taken. After a
+/// fault the sink has taken a first part of them, and not all.
 pub fn send_whole<O: Sink>(out: &mut O, bytes: &[u8]) -> Result<(), WriteFault>
     ensures sent { OnOk result (WhereTold (Adds bytes.now) (O.written out.old) (O.written out.new)) }
+    ensures faultless { OnOk result (O.faults out.new ≡ O.faults out.old) }
+    ensures part { OnErr result (AddsPart bytes.now (O.written out.old) (O.written out.new)) }
     ensures write_fault { OnErr result (Rose (O.faults out.old) (O.faults out.new)) }
 
     // With every answer.
-    ensures part { WhereTold (AddsPart bytes.now) (O.written out.old) (O.written out.new) }
     ensures later { O.faults out.old ≤ O.faults out.new }
 {
     let mut unsent = bytes;

@@ -1,14 +1,14 @@
 //! A file in memory, and the memory for one to come.
 
 ghost use Rattle.std.specs.Prelude.{◌≡◌, ◌+◌, ◌-◌, ◌≤◌, ◌++◌, [], length, vec_len, string_bytes, IfOk};
-ghost use Rattle.mv_files.specs.StoredFile.{longest_name};
+ghost use Rattle.mv_files.specs.StoredFile.{most_name_bytes};
 
-use crate::failed::NoMemory;
+use sequences::NoMemory;
 use std::alloc::Global;
 use std::marker::Model;
 
 /// The name of a created file has at most so many bytes.
-pub const LONGEST_NAME: usize = 256;
+pub const MOST_NAME_BYTES: usize = 256;
 
 /// A file with its name, and the most bytes that it may come to hold.
 #[derive(Debug, Drop)]
@@ -66,7 +66,7 @@ impl StoredFile {
     }
 }
 
-/// The memory for a file to come, of a name of at most [`LONGEST_NAME`] bytes. Contracts see how many bytes it may hold.
+/// The memory for a file to come, of a name of at most [`MOST_NAME_BYTES`] bytes. Contracts see how many bytes it may hold.
 #[derive(Debug, Drop)]
 pub struct Slot {
     name: String,
@@ -77,12 +77,13 @@ pub struct Slot {
 impl Model for Slot {
     ghost use Rattle.std.specs.Prelude.{ℕ, ◌≡◌, ◌≤◌, [], vec_capacity, string_bytes, string_len};
     ghost use Rattle.std.specs.String.{string_capacity};
+    ghost use Rattle.mv_files.specs.StoredFile.{most_name_bytes};
 
     ghost Value = { ℕ };
 
     ghost view = { λ s. s.room };
 
-    ghost invariant = { λ s. (string_bytes s.name ≡ []) × (string_len s.name ≡ 0) × (s.bytes.items ≡ []) × (256 ≤ string_capacity s.name) × (s.room ≤ vec_capacity s.bytes) };
+    ghost invariant = { λ s. (string_bytes s.name ≡ []) × (string_len s.name ≡ 0) × (s.bytes.items ≡ []) × (most_name_bytes ≤ string_capacity s.name) × (s.room ≤ vec_capacity s.bytes) };
 }
 
 impl Slot {
@@ -91,7 +92,7 @@ impl Slot {
         ensures { IfOk result (λ slot. slot ≡ room) }
     {
         Ok(Slot {
-            name: String::with_capacity(alloc, LONGEST_NAME)?,
+            name: String::with_capacity(alloc, MOST_NAME_BYTES)?,
             bytes: Vec::with_capacity(alloc, room)?,
             room,
         })
@@ -99,7 +100,7 @@ impl Slot {
 
     /// The empty file of this name, which takes no more memory.
     pub fn named(self, name: &str) -> StoredFile
-        requires { length name.now ≤ longest_name }
+        requires { length name.now ≤ most_name_bytes }
         ensures { result ≡ record { name = name.now; bytes = []; room = self } }
     {
         let Slot {

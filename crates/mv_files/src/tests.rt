@@ -1,11 +1,12 @@
 //! Reading, writing and sending over the objects in memory.
 
-use crate::failed::{Failed, NoMemory};
+use crate::failed::Failed;
 use crate::files::Files;
 use crate::memory_files::MemoryFiles;
 use crate::memory_sink::MemorySink;
-use crate::send::send_whole;
+use crate::send::{WriteFault, send_whole};
 use crate::whole::{ReadStop, read_whole};
+use sequences::NoMemory;
 use std::alloc::Global;
 use std::test::Fail;
 
@@ -97,6 +98,37 @@ fn sends_in_pieces(rt: HostRuntime) -> Result<(), Fail> {
         let sent = send_whole(&mut sink, b"Secure\nnotion");
         assert_eq!(rt; sent.is_ok(), want.len() == 13);
         assert_eq!(rt; sink.written(), want);
+    }
+    Ok(())
+}
+
+#[test]
+fn says_what_failed(rt: HostRuntime) -> Result<(), Fail> {
+    let alloc = rt.alloc();
+    for (said, want) in [
+        (
+            format!(in alloc; "{}", Failed)?,
+            "a call to the outside failed",
+        ),
+        (
+            format!(in alloc; "{}", WriteFault)?,
+            "the output cannot be written",
+        ),
+        (format!(in alloc; "{}", ReadStop::Missing)?, "no such file"),
+        (
+            format!(in alloc; "{}", ReadStop::ReadFault)?,
+            "the file cannot be read",
+        ),
+        (
+            format!(in alloc; "{}", ReadStop::TooLong)?,
+            "the file is too long",
+        ),
+        (
+            format!(in alloc; "{}", ReadStop::NoMemory)?,
+            "memory was refused",
+        ),
+    ] {
+        assert_eq!(rt; said.as_str(), want);
     }
     Ok(())
 }

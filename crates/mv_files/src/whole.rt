@@ -5,8 +5,9 @@ ghost use Rattle.mv_files.specs.Counts.{Rose};
 ghost use Rattle.mv_files.specs.Told.{WhereTold};
 ghost use Rattle.mv_files.specs.Disk.{SameFiles, IsWhole, IsMissing, IsLonger};
 
-use crate::failed::{Failed, NoMemory};
+use crate::failed::Failed;
 use crate::files::Files;
+use sequences::NoMemory;
 use std::alloc::Global;
 
 /// How many bytes one call asks for.
@@ -24,8 +25,8 @@ pub enum ReadStop {
     /// The file is longer than the limit.
     #[error("the file is too long")]
     TooLong,
-    /// Memory ran out.
-    #[error("out of memory")]
+    /// Memory was refused.
+    #[error("memory was refused")]
     NoMemory,
 }
 
@@ -69,6 +70,7 @@ pub fn read_whole<F: Files>(
     // What stays, with every answer.
     ensures same { WhereTold SameFiles (F.disk files.old) (F.disk files.new) }
     ensures later { F.read_faults files.old ≤ F.read_faults files.new }
+    ensures faultless { (result ≡ Err ReadStop.ReadFault → ⊥) → F.read_faults files.new ≡ F.read_faults files.old }
     ensures write_faults { F.write_faults files.new ≡ F.write_faults files.old }
 {
     if !files.open_file(name)? {

@@ -1,4 +1,4 @@
-//! Plain lists: a type for the fields of public types.
+//! Plain lists, a type for the fields of public types; and the one name for want of memory.
 //!
 //! A `Vec` is more than its elements: it has a place in memory and room to spare, so two that hold
 //! the same elements are not equal in a contract. A [`Sequence`] is made of a `Vec` and gives it
@@ -6,6 +6,8 @@
 //! be compared with a definition's value.
 #![tactic(auto)]
 
+mod no_memory;
 mod sequence;
 
+pub use no_memory::NoMemory;
 pub use sequence::Sequence;

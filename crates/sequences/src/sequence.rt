@@ -1,3 +1,5 @@
+//! Elements in order.
+
 ghost use Rattle.std.specs.Prelude.{◌≡◌, length};
 
 use std::marker::Model;

@@ -1,4 +1,4 @@
-use Rattle.std.proofs.Common.{◌≡◌, ◌≤◌, ◌+◌, ◌-◌, vec_len, length, true}
+use Rattle.std.proofs.Common.{◌≡◌, ◌+◌, ◌-◌, vec_len, length, true}
 use Rattle.mv_files.specs.Told.{WhereTold}
 use Rattle.mv_files.proofs.Reading.{Halfway}
 use Rattle.mv_files.proofs.whole.read_whole.Given as goal
@@ -8,7 +8,7 @@ abbrev pub invariant-loop-buffer : goal.invariant-loop-buffer
 invariant-loop-buffer g l = record {
   reading : g.F.Files.is_reading l.files ≡ true;
   room : length l.buffer ≡ 4096;
-  later : g.F.Files.read_faults l.fn.files ≤ g.F.Files.read_faults l.files;
+  faultless : g.F.Files.read_faults l.files ≡ g.F.Files.read_faults l.fn.files;
   write_faults : g.F.Files.write_faults l.files ≡ g.F.Files.write_faults l.fn.files;
   halfway : WhereTold (Halfway l.name l.bytes.items) (g.F.Files.disk l.fn.files) (g.F.Files.disk l.files);
 }

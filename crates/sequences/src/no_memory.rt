@@ -1,0 +1,6 @@
+//! Want of memory.
+
+use std::alloc::AllocError;
+
+/// Memory was refused.
+pub type NoMemory = AllocError;
