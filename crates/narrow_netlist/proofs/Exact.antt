@@ -5,7 +5,7 @@ use Rattle.narrow_netlist.specs.declared.netlist.Netlist.{Netlist}
 use Rattle.narrow_netlist.specs.declared.line.Line.{Line}
 use Rattle.narrow_netlist.specs.Text.{AreLines}
 use Rattle.narrow_netlist.specs.Wiring.{IsWired}
-use Rattle.narrow_netlist.specs.Narrow.{IsOpening, IsAttribute, module_lines, IsNarrow}
+use Rattle.narrow_netlist.specs.Narrow.{most_bytes, IsOpening, IsAttribute, module_lines, IsNarrow}
 use Rattle.narrow_netlist.specs.Pieces.{◌>>=◌, Stops}
 use Rattle.narrow_netlist.specs.Checks.{Denies, Reads}
 use Rattle.narrow_netlist.specs.declared.stop.Stop.{Stop}
@@ -15,7 +15,7 @@ use Rattle.narrow_netlist.proofs.Options.{some_is, none_is_none, bind_at}
 use Rattle.narrow_netlist.proofs.FileLines.{lines_are, lines_at}
 use Rattle.narrow_netlist.proofs.Parts.{HasParts, parts_are, parts_at, ascends_increasing, increasing_ascends, input_ports, output_ports}
 
-pub is_narrow : (bytes : List ℕ) (lines : List Line) (n : Netlist) → length bytes ≤ 65536 → lines_of bytes ≡ Some lines → netlist_of lines ≡ Some n → IsWired n → IsNarrow bytes n
+pub is_narrow : (bytes : List ℕ) (lines : List Line) (n : Netlist) → length bytes ≤ most_bytes → lines_of bytes ≡ Some lines → netlist_of lines ≡ Some n → IsWired n → IsNarrow bytes n
 is_narrow bytes lines n short l e wired =
     let parts = parts_are lines n e in
     record {

@@ -12,7 +12,7 @@ use Rattle.narrow_netlist.specs.declared.netlist.Note.{Note}
 use Rattle.narrow_netlist.specs.declared.netlist.Note.TheVariants.{Random, Share}
 use Rattle.narrow_netlist.specs.declared.netlist.ShareIndex.{ShareIndex}
 use Rattle.narrow_netlist.specs.declared.netlist.ShareIndex.TheVariants.{Zero, One}
-use Rattle.narrow_netlist.specs.Text.{IsInk, IsIdentifier, IsNumber, IsName, IsNote, index_text, note_text}
+use Rattle.narrow_netlist.specs.Text.{IsInk, IsIdentifier, IsNumber, IsSecretName, IsNote, index_text, note_text}
 use Rattle.narrow_netlist.specs.Pieces.{◌>>=◌, after, cut_at, identifier_of, name_of, number_of}
 use Rattle.narrow_netlist.specs.Lines.{quoted_of, index_of, note_of, port_of}
 use Rattle.narrow_netlist.proofs.Options.{some_of, some_is, bind_is, bind_at, guard_is, cond_is}
@@ -46,7 +46,7 @@ mark_lacks mark (inr e) h = omega arith
 lacks_by_kind : (P : ℕ → Type 0) (c : ℕ) (text : List ℕ) → (P c → ⊥) → All P text → Lacks c text
 lacks_by_kind P c text never all = recursion_from_All (λ b. b ≢ c) text (All-weaker P (λ b. b ≢ c) (λ b p e. never (subst (λ (x : ℕ). P x) e p)) text all)
 
-name_lacks : (c : ℕ) (name : List ℕ) → is_ascii_alphanumeric c ≡ false → (c ≡ 95 → ⊥) → IsName name → Lacks c name
+name_lacks : (c : ℕ) (name : List ℕ) → is_ascii_alphanumeric c ≡ false → (c ≡ 95 → ⊥) → IsSecretName name → Lacks c name
 name_lacks c name f g n =
     lacks_by_kind (λ b. IsTrue (is_ascii_alphanumeric b) ⊎ (b ≡ 95)) c name (λ h. elim h [ inl t ↦ is_both (is_ascii_alphanumeric c) f t | inr e ↦ g e ]) n.each
 

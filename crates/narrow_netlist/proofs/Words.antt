@@ -6,8 +6,8 @@ use Rattle.std.specs.Char.{is_ascii_digit, is_ascii_alphanumeric}
 use Rattle.std.specs.List.{list_all}
 use Rattle.std.proofs.lemmas.Bool.{cases_Bool, and_parts, and_from, or_cases, or_left, or_right, eq-eqb, eqb-true, ltb-true, lt-ltb, leb-true, le-leb}
 use Rattle.std.proofs.lemmas.Bool.Decides.{Decides-and, Decides-or, Decides-not, Decides-eqb, Decides-like, Decides-by_and}
-use Rattle.narrow_netlist.specs.Text.{IsInk, IsIdentifier, IsNumber, IsName, IsQuotable, decimal}
-use Rattle.narrow_netlist.specs.Pieces.{after, is_ink, is_identifier, identifier_of, is_word_byte, is_name, name_of, is_number, number_of, is_quotable, without_spaces}
+use Rattle.narrow_netlist.specs.Text.{IsInk, IsIdentifier, IsNumber, IsSecretName, IsQuotable, value_of_digits}
+use Rattle.narrow_netlist.specs.Pieces.{after, is_ink, is_identifier, identifier_of, is_word_byte, is_secret_name, name_of, is_number, number_of, is_quotable, without_spaces}
 use Rattle.narrow_netlist.proofs.Options.{some_of, some_is, guard_is, guard_at}
 
 each_Decides : (p : ℕ → Bool) (P : ℕ → Type 0) → ((b : ℕ) → Decides (p b) (P b)) → (text : List ℕ) → Decides (list_all p text) (All P text)
@@ -67,24 +67,24 @@ identifier_of_at text id = guard_at (is_identifier text) (Some text) (identifier
 word_Decides : (b : ℕ) → Decides (is_word_byte b) (IsTrue (is_ascii_alphanumeric b) ⊎ (b ≡ 95))
 word_Decides b = Decides-or (is_ascii_alphanumeric b) (eqb b 95) ((λ h. h), (λ h. h)) (Decides-eqb b 95)
 
-pub name_of_is : (text x : List ℕ) → name_of text ≡ Some x → (text ≡ x) × IsName x
+pub name_of_is : (text x : List ℕ) → name_of text ≡ Some x → (text ≡ x) × IsSecretName x
 unfolding name_of
 name_of_is text x e =
-    let g = guard_is (is_name text) text x e in
+    let g = guard_is (is_secret_name text) text x e in
     let a = and_parts (ltb 0 (length text) && leb (length text) 64) (list_all is_word_byte text) g.0 in
     let b = and_parts (ltb 0 (length text)) (leb (length text) 64) a.0 in (
       g.1,
-      subst (λ (t : List ℕ). IsName t) g.1 (record {
+      subst (λ (t : List ℕ). IsSecretName t) g.1 (record {
         some = ltb-true 0 (length text) b.0;
         few = leb-true (length text) 64 b.1;
         each = (each_Decides is_word_byte (λ c. IsTrue (is_ascii_alphanumeric c) ⊎ (c ≡ 95)) word_Decides text).0 a.1;
       }),
     )
 
-pub name_of_at : (text : List ℕ) → IsName text → name_of text ≡ Some text
+pub name_of_at : (text : List ℕ) → IsSecretName text → name_of text ≡ Some text
 unfolding name_of
 name_of_at text name =
-    guard_at (is_name text) (Some text) (and_from (ltb 0 (length text) && leb (length text) 64) (list_all is_word_byte text)
+    guard_at (is_secret_name text) (Some text) (and_from (ltb 0 (length text) && leb (length text) 64) (list_all is_word_byte text)
     (and_from (ltb 0 (length text)) (leb (length text) 64) (lt-ltb 0 (length text) name.some) (le-leb (length text) 64 name.few))
     ((each_Decides is_word_byte (λ c. IsTrue (is_ascii_alphanumeric c) ⊎ (c ≡ 95)) word_Decides text).1 name.each))
 
@@ -96,7 +96,7 @@ digits_Decides text = each_Decides is_ascii_digit (λ b. IsTrue (is_ascii_digit 
 pub number_of_is : (text : List ℕ) (n : ℕ) → number_of text ≡ Some n → IsNumber text n
 unfolding number_of
 number_of_is text n e =
-    let g = guard_is (is_number text) (decimal text) n e in
+    let g = guard_is (is_number text) (value_of_digits text) n e in
     let a = and_parts (ltb 0 (length text) && leb (length text) 9) (list_all is_ascii_digit text) g.0 in
     let b = and_parts (ltb 0 (length text)) (leb (length text) 9) a.0 in
     record {
@@ -109,7 +109,7 @@ number_of_is text n e =
 pub number_of_at : (text : List ℕ) (n : ℕ) → IsNumber text n → number_of text ≡ Some n
 unfolding number_of
 number_of_at text n number =
-    guard_at (is_number text) (some_of (decimal text)) (and_from (ltb 0 (length text) && leb (length text) 9) (list_all is_ascii_digit text)
+    guard_at (is_number text) (some_of (value_of_digits text)) (and_from (ltb 0 (length text) && leb (length text) 9) (list_all is_ascii_digit text)
     (and_from (ltb 0 (length text)) (leb (length text) 9) (lt-ltb 0 (length text) number.some) (le-leb (length text) 9 number.few))
     ((digits_Decides text).1 number.each))
     ∙ ap (λ (m : ℕ). some_of m) (sym number.value)

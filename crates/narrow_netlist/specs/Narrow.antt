@@ -12,6 +12,10 @@ use Rattle.narrow_netlist.specs.declared.line.Line.TheVariants.{Comment, Autoidx
 use Rattle.narrow_netlist.specs.Text.{AreLines}
 use Rattle.narrow_netlist.specs.Wiring.{IsWired}
 
+-- the text has at most so many bytes
+abbrev pub most_bytes : ℕ
+most_bytes = 65536
+
 -- a line that may stand before the first attribute of the head
 abbrev pub IsOpening : Line → Type 0
 IsOpening line = (line ≡ Comment) ⊎ (line ≡ Autoidx)
@@ -37,7 +41,7 @@ module_lines inputs outputs inner cells =
 
 -- the bytes are the text of the netlist
 pub record IsNarrow (bytes : List ℕ) (n : Netlist) : Type 0 where
-  pub short : length bytes ≤ 65536
+  pub short : length bytes ≤ most_bytes
   -- the head: comments and `autoidx` lines, then comments and attributes
   pub opening : List Line
   pub attributes : List Line

@@ -4,7 +4,7 @@ use Rattle.std.specs.List.{list_all}
 use Rattle.std.specs.Char.{is_ascii_digit, is_ascii_alphanumeric}
 use Rattle.narrow_netlist.specs.declared.stop.Stop.{Stop}
 use Rattle.narrow_netlist.specs.declared.stop.Stop.TheVariants as stops
-use Rattle.narrow_netlist.specs.Text.{decimal}
+use Rattle.narrow_netlist.specs.Text.{value_of_digits}
 
 infixl 10 ◌>>=◌
 abbrev pub ◌>>=◌ : {A B : Type 0} → Option A → (A → Option B) → Option B
@@ -14,7 +14,7 @@ abbrev pub Stops : {Y : Type 0} → Stop → Option Y → Type 0
 Stops stops.NoMemory read = Unit {0}
 Stops stops.NotNarrow read = read ≡ None
 
--- What a function returned, seen by view, is what reading gives, unless memory ran out.
+-- What a function returned, seen by view, is what reading gives, unless memory was refused.
 abbrev pub Gives : {X Y : Type 0} → (X → Y) → Result X Stop → Option Y → Type 0
 Gives view (Ok x) read = read ≡ Some (view x)
 Gives view (Err e) read = Stops e read
@@ -51,17 +51,17 @@ identifier_of text = if is_identifier text then Some text else None
 abbrev pub is_word_byte : ℕ → Bool
 is_word_byte b = is_ascii_alphanumeric b || b == 95
 
-abbrev pub is_name : List ℕ → Bool
-is_name text = nat_lt 0 (length text) && nat_le (length text) 64 && list_all is_word_byte text
+abbrev pub is_secret_name : List ℕ → Bool
+is_secret_name text = nat_lt 0 (length text) && nat_le (length text) 64 && list_all is_word_byte text
 
 unfoldable pub name_of : List ℕ → Option (List ℕ)
-name_of text = if is_name text then Some text else None
+name_of text = if is_secret_name text then Some text else None
 
 abbrev pub is_number : List ℕ → Bool
 is_number text = nat_lt 0 (length text) && nat_le (length text) 9 && list_all is_ascii_digit text
 
 unfoldable pub number_of : List ℕ → Option ℕ
-number_of text = if is_number text then Some (decimal text) else None
+number_of text = if is_number text then Some (value_of_digits text) else None
 
 abbrev pub is_quotable : List ℕ → Bool
 is_quotable text = list_all (λ b. not (b == 34) && not (b == 92) && not (b == 10)) text

@@ -23,18 +23,18 @@ pub record IsIdentifier (id : List ℕ) : Type 0 where
   pub ink : All IsInk rest
 
 -- what decimal digits stand for
-abbrev pub decimal : List ℕ → ℕ
-decimal digits = fold (λ n digit. 10 * n + (digit - 48)) 0 digits
+abbrev pub value_of_digits : List ℕ → ℕ
+value_of_digits digits = fold (λ n digit. 10 * n + (digit - 48)) 0 digits
 
 -- one to nine digits, which stand for the number
 pub record IsNumber (digits : List ℕ) (n : ℕ) : Type 0 where
   pub some : 0 < length digits
   pub few : length digits ≤ 9
   pub each : All (λ b. IsTrue (is_ascii_digit b)) digits
-  pub value : n ≡ decimal digits
+  pub value : n ≡ value_of_digits digits
 
 -- one to 64 letters, digits and underscores
-pub record IsName (name : List ℕ) : Type 0 where
+pub record IsSecretName (name : List ℕ) : Type 0 where
   pub some : 0 < length name
   pub few : length name ≤ 64
   pub each : All (λ b. IsTrue (is_ascii_alphanumeric b) ⊎ (b ≡ 95)) name
@@ -58,7 +58,7 @@ note_text (Share note) = share_text note
 -- the secret's name is of its form
 abbrev pub IsNote : Note → Type 0
 IsNote Random = Unit {0}
-IsNote (Share note) = IsName note.secret
+IsNote (Share note) = IsSecretName note.secret
 
 -- the text is that of the line, without the spaces before it and the line feed after it
 abbrev pub IsLine : Line → List ℕ → Type 0

@@ -45,15 +45,15 @@ is_index One One = true
 is_index i j = false
 
 -- the secrets of which a note names this share, one for each note
-abbrev pub secrets : ShareIndex → List ShareNote → List (List ℕ)
-secrets index notes = map (λ (note : ShareNote). note.secret) (filter (λ (note : ShareNote). is_index index note.index) notes)
+abbrev pub secrets_with_share : ShareIndex → List ShareNote → List (List ℕ)
+secrets_with_share index notes = map (λ (note : ShareNote). note.secret) (filter (λ (note : ShareNote). is_index index note.index) notes)
 
 -- each secret that the notes name has its share 0 once and its share 1 once
 pub record HasBothShares (notes : List ShareNote) : Type 0 where
-  pub zero_once : AreDistinct (secrets Zero notes)
-  pub one_once : AreDistinct (secrets One notes)
-  pub zero_has_one : All (Contains (secrets One notes)) (secrets Zero notes)
-  pub one_has_zero : All (Contains (secrets Zero notes)) (secrets One notes)
+  pub zero_once : AreDistinct (secrets_with_share Zero notes)
+  pub one_once : AreDistinct (secrets_with_share One notes)
+  pub zero_has_one : All (Contains (secrets_with_share One notes)) (secrets_with_share Zero notes)
+  pub one_has_zero : All (Contains (secrets_with_share Zero notes)) (secrets_with_share One notes)
 
 abbrev pub share_of : Note → Option ShareNote
 share_of Random = None

@@ -8,6 +8,7 @@
 #![tactic(auto)]
 
 mod copies;
+mod laws;
 mod line;
 mod netlist;
 mod reader;
@@ -16,8 +17,10 @@ mod stop;
 mod text;
 mod wiring;
 
+pub use laws::{limits, one_netlist};
 pub use netlist::{InputWire, Netlist, Note, OutputWire, ShareIndex, ShareNote, XorCell};
-pub use reader::{MAX_BYTES, NoMemory, one_netlist, read};
+pub use reader::{MOST_BYTES, read};
+pub use sequences::NoMemory;
 
 #[cfg(test)]
 mod tests;

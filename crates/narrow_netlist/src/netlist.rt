@@ -1,3 +1,5 @@
+//! A narrow netlist: its wires, their notes and its cells.
+
 use sequences::Sequence;
 
 /// A module of single bits. The lines before the module, its name and the port numbers are not kept, so

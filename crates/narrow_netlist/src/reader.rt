@@ -1,4 +1,6 @@
-ghost use Rattle.std.specs.Prelude.{◌≡◌, ℕ, List, IfOk, IfNone, IfSome};
+//! Reading bytes as a netlist.
+
+ghost use Rattle.std.specs.Prelude.{◌≡◌, IfOk, IfNone, IfSome};
 ghost use Rattle.narrow_netlist.specs.declared.netlist.Netlist.{Netlist};
 ghost use Rattle.narrow_netlist.specs.Checks.{Reads, answer_of};
 ghost use Rattle.narrow_netlist.specs.Narrow.{IsNarrow};
@@ -7,18 +9,16 @@ use crate::netlist::Netlist;
 use crate::sections::{lines, netlist};
 use crate::stop::Stop;
 use crate::wiring::wired;
+use sequences::NoMemory;
 use std::alloc::{AllocError, Global};
 
-/// Memory was refused.
-pub type NoMemory = AllocError;
-
 /// The most bytes that the text of a narrow netlist has.
-pub const MAX_BYTES: usize = 65_536;
+pub const MOST_BYTES: usize = 65_536;
 
 fn narrow(alloc: Global, bytes: &[u8]) -> Result<Netlist, Stop>
     ensures { Reads result bytes.now }
 {
-    if bytes.len() > MAX_BYTES {
+    if bytes.len() > MOST_BYTES {
         return Err(Stop::NotNarrow);
     }
     let lines = lines(alloc, bytes)?;
@@ -46,8 +46,3 @@ pub fn read(alloc: Global, bytes: &[u8]) -> Result<Option<Netlist>, NoMemory>
 {
     answer(narrow(alloc, bytes))
 }
-
-/// Bytes are the text of at most one netlist.
-pub fn one_netlist()
-    ensures { (bytes : List ℕ) (m n : Netlist) → IsNarrow bytes m → IsNarrow bytes n → m ≡ n }
-{}

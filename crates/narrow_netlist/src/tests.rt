@@ -1,3 +1,5 @@
+//! Texts, and edits of texts, with whether they are narrow.
+
 use super::*;
 use std::alloc::{AllocError, Global};
 use std::process::Abort;

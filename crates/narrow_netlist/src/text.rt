@@ -4,8 +4,8 @@ ghost use Rattle.std.specs.Prelude.{◌≡◌, ◌≤◌, length, true};
 ghost use Rattle.std.specs.Option.{option_copied};
 ghost use Rattle.std.specs.List.{list_all};
 ghost use Rattle.std.specs.Char.{is_ascii_digit};
-ghost use Rattle.narrow_netlist.specs.Text.{decimal};
-ghost use Rattle.narrow_netlist.specs.Pieces.{Gives, after, cut_at, without_spaces, is_ink, is_word_byte, is_identifier, is_name, is_number, is_quotable, identifier_of, name_of, number_of};
+ghost use Rattle.narrow_netlist.specs.Text.{value_of_digits};
+ghost use Rattle.narrow_netlist.specs.Pieces.{Gives, after, cut_at, without_spaces, is_ink, is_word_byte, is_identifier, is_secret_name, is_number, is_quotable, identifier_of, name_of, number_of};
 
 use crate::stop::Stop;
 use sequences::Sequence;
@@ -75,8 +75,8 @@ fn is_word(text: &[u8]) -> bool
     text.iter().all(|b| b.is_ascii_alphanumeric() || *b == b'_')
 }
 
-fn is_name(text: &[u8]) -> bool
-    ensures { result ≡ is_name text.now }
+fn is_secret_name(text: &[u8]) -> bool
+    ensures { result ≡ is_secret_name text.now }
 {
     !text.is_empty() && text.len() <= 64 && is_word(text)
 }
@@ -86,7 +86,7 @@ fn is_name(text: &[u8]) -> bool
 pub fn name(alloc: Global, text: &[u8]) -> Result<Sequence<u8>, Stop>
     ensures { Gives (λ x. x) result (name_of text.now) }
 {
-    if !is_name(text) {
+    if !is_secret_name(text) {
         return Err(Stop::NotNarrow);
     }
     Ok(Sequence::from_vec(Vec::from_slice(alloc, text)?))
@@ -105,10 +105,10 @@ fn is_number(text: &[u8]) -> bool
 }
 
 /// What the digits stand for.
-fn decimal(digits: &[u8]) -> u32
+fn value_of_digits(digits: &[u8]) -> u32
     requires few { length digits.now ≤ 9 }
     requires each { list_all is_ascii_digit digits.now ≡ true }
-    ensures { result ≡ decimal digits.now }
+    ensures { result ≡ value_of_digits digits.now }
 {
     let mut number: u32 = 0;
     for digit in digits {
@@ -125,7 +125,7 @@ pub fn number(text: &[u8]) -> Result<u32, Stop>
     if !is_number(text) {
         return Err(Stop::NotNarrow);
     }
-    Ok(decimal(text))
+    Ok(value_of_digits(text))
 }
 
 /// Whether the text may stand between the quotes after `attribute \src`.

@@ -5,7 +5,7 @@ ghost use Rattle.std.specs.Bool.{Decides};
 ghost use Rattle.std.specs.Option.{option_to_list};
 ghost use Rattle.narrow_netlist.specs.declared.netlist.XorCell.{XorCell};
 ghost use Rattle.narrow_netlist.specs.Checks.{Tells};
-ghost use Rattle.narrow_netlist.specs.Wiring.{AreDistinct, input_names, output_names, cell_names, driven, undriven, wires, AreInOrder, CellsFit, is_index, secrets, HasBothShares, share_of, input_shares, output_shares, IsWired};
+ghost use Rattle.narrow_netlist.specs.Wiring.{AreDistinct, input_names, output_names, cell_names, driven, undriven, wires, AreInOrder, CellsFit, is_index, secrets_with_share, HasBothShares, share_of, input_shares, output_shares, IsWired};
 
 use crate::copies::copy;
 use crate::netlist::{InputWire, Netlist, Note, OutputWire, ShareIndex, ShareNote, XorCell};
@@ -154,12 +154,12 @@ fn is_index(index: ShareIndex, other: ShareIndex) -> bool
 }
 
 /// The secrets of which a note names this share.
-fn secrets(
+fn secrets_with_share(
     alloc: Global,
     index: ShareIndex,
     notes: &[ShareNote],
 ) -> Result<Vec<Sequence<u8>>, AllocError>
-    ensures { IfOk result (λ v. v.items ≡ secrets index notes.now) }
+    ensures { IfOk result (λ v. v.items ≡ secrets_with_share index notes.now) }
 {
     let mut names = Vec::new(alloc);
     for note in notes {
@@ -174,8 +174,8 @@ fn secrets(
 fn both_shares(alloc: Global, notes: &[ShareNote]) -> Result<(), Stop>
     ensures { Tells result (HasBothShares notes.now) }
 {
-    let zero = secrets(alloc, ShareIndex::Zero, notes)?;
-    let one = secrets(alloc, ShareIndex::One, notes)?;
+    let zero = secrets_with_share(alloc, ShareIndex::Zero, notes)?;
+    let one = secrets_with_share(alloc, ShareIndex::One, notes)?;
     distinct(&zero)?;
     distinct(&one)?;
     all_among(&one, &zero)?;

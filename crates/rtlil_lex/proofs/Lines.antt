@@ -5,7 +5,7 @@ use Rattle.std.specs.List.{count_by}
 use Rattle.std.proofs.lemmas.Bool.{cond-false, not-true, not_from_false, or_parts, and_parts, leb-true, ne_eqb, both_ways}
 use Rattle.std.proofs.lemmas.List.{take-append-drop, take-take, drop-take}
 use Rattle.std.proofs.lemmas.List.Sums.{sum_by-cons, sum_by-append, count_by-le-length}
-use Rattle.rtlil_lex.specs.Bytes.{NoneOrMore, is_letter, is_digit, is_octal, is_blank, is_feed, is_inline, is_sigil, is_name, is_bit, is_mark, is_plain}
+use Rattle.rtlil_lex.specs.Bytes.{NoneOrMore, is_letter, is_digit, is_octal, is_blank, is_feed, is_inline, is_sigil, is_name_byte, is_bit, is_mark, is_plain}
 use Rattle.rtlil_lex.specs.Strings.{Character, plain, escaped, octal, spelling_of, IsCharacter, text_of, AreCharacters}
 use Rattle.rtlil_lex.specs.Forms.{HasForm, IsValue}
 use Rattle.rtlil_lex.specs.Tokens.{IsGap, line_at}
@@ -44,7 +44,7 @@ digit_inline b h = let range : (48 ≤ b) × (b ≤ 57) = digit_range b h in inl
 octal_inline : (b : ℕ) → IsTrue (is_octal b) → IsTrue (is_inline b)
 octal_inline b h = let range : (48 ≤ b) × (b ≤ 55) = octal_range b h in inline_is b (λ e. omega arith)
 
-name_inline : (b : ℕ) → IsTrue (is_name b) → IsTrue (is_inline b)
+name_inline : (b : ℕ) → IsTrue (is_name_byte b) → IsTrue (is_inline b)
 name_inline b h = not_from_false _ (or_parts _ _ (not-true _ h)).1
 
 plain_inline : (b : ℕ) → IsTrue (is_plain b) → IsTrue (is_inline b)
@@ -75,7 +75,7 @@ pub feeds_in : (k : TokenKind) (s : List ℕ) → HasForm k s → count_by is_fe
 unfolding HasForm
 feeds_in Word s h = no_feeds s (weaker is_letter s letter_inline (NoneOrMore-from_one is_letter s h))
 feeds_in Id [] h = absurd h
-feeds_in Id (b ∷ bs) h = no_feeds (b ∷ bs) (fails_at_feed is_sigil refl b h.0, weaker is_name bs name_inline (NoneOrMore-from_one is_name bs h.1))
+feeds_in Id (b ∷ bs) h = no_feeds (b ∷ bs) (fails_at_feed is_sigil refl b h.0, weaker is_name_byte bs name_inline (NoneOrMore-from_one is_name_byte bs h.1))
 feeds_in Int [] h = absurd h
 feeds_in Int (b ∷ bs) h =
     ⊎_elim

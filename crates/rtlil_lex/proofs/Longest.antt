@@ -5,7 +5,7 @@ use Rattle.std.specs.List.{prefix_len}
 use Rattle.std.proofs.lemmas.Bool.{cond-true, cond-false, false≢true, eqb-true, or_from, both_ways, not_from_false}
 use Rattle.std.proofs.lemmas.List.{length-take-le}
 use Rattle.std.proofs.lemmas.List.Sums.{prefix_len-le-length}
-use Rattle.rtlil_lex.specs.Bytes.{OneOrMore, begins, is_letter, is_sigil, is_digit, is_name, is_mark, is_feed}
+use Rattle.rtlil_lex.specs.Bytes.{OneOrMore, begins, is_letter, is_sigil, is_digit, is_name_byte, is_mark, is_feed}
 use Rattle.rtlil_lex.specs.Forms.{HasForm, IsLongest, BeginsNoToken}
 use Rattle.rtlil_lex.specs.Tokens.{IsStray}
 use Rattle.rtlil_lex.specs.declared.token.TokenKind.{TokenKind}
@@ -49,20 +49,20 @@ word_next (b ∷ bs) n h e =
 sigil_kind : (b : ℕ) (bs : List ℕ) → IsTrue (is_sigil b) → kind_of (b ∷ bs) ≡ Id
 sigil_kind b bs h = sigil_cases (λ x. kind_of (x ∷ bs) ≡ Id) refl refl b h
 
-pub id_next : (bytes : List ℕ) (n : ℕ) → IsTrue (begins is_sigil bytes) → n ≡ prefix_len is_name (drop 1 bytes) → 0 < n → IsLongest Id (1 + n) bytes
+pub id_next : (bytes : List ℕ) (n : ℕ) → IsTrue (begins is_sigil bytes) → n ≡ prefix_len is_name_byte (drop 1 bytes) → 0 < n → IsLongest Id (1 + n) bytes
 unfolding HasForm
 id_next [] n h e some = absurd (false≢true h)
 id_next (b ∷ bs) n h e some =
     subst (λ size. IsLongest Id size (b ∷ bs)) (omega arith)
     (longest_of Id (suc n) b bs
-    (omega (arith, prefix_len-le-length is_name bs))
-    (h, one_from is_name bs n e some)
+    (omega (arith, prefix_len-le-length is_name_byte bs))
+    (h, one_from is_name_byte bs n e some)
     (λ other more within kind form.
     let id : HasForm Id (b ∷ take more bs) = subst (λ k. HasForm k (b ∷ take more bs)) (sym kind ∙ sigil_kind b (take more bs) h) form in
-    let most : more ≤ prefix_len is_name bs = run_longest is_name bs more (omega arith) (NoneOrMore-from_one is_name _ id.1) in
+    let most : more ≤ prefix_len is_name_byte bs = run_longest is_name_byte bs more (omega arith) (NoneOrMore-from_one is_name_byte _ id.1) in
     omega arith))
 
-pub id_none : (bytes : List ℕ) → IsTrue (begins is_sigil bytes) → 0 ≡ prefix_len is_name (drop 1 bytes) → IsStray bytes
+pub id_none : (bytes : List ℕ) → IsTrue (begins is_sigil bytes) → 0 ≡ prefix_len is_name_byte (drop 1 bytes) → IsStray bytes
 unfolding HasForm
 id_none [] h e = absurd (false≢true h)
 id_none (b ∷ bs) h e = record {
@@ -70,7 +70,7 @@ id_none (b ∷ bs) h e = record {
   no_quote = sigil_cases (λ x. IsTrue (not (x == 34))) refl refl b h;
   none = none_of b bs (λ k more kind form.
       let id : HasForm Id (b ∷ take more bs) = subst (λ k. HasForm k (b ∷ take more bs)) (sym kind ∙ sigil_kind b (take more bs) h) form in
-      omega (arith, run_from_one is_name bs more id.1));
+      omega (arith, run_from_one is_name_byte bs more id.1));
 }
 
 pub mark_next : (bytes : List ℕ) (b : ℕ) → IsTrue (begins is_mark bytes) → b ≡ slice_index bytes 0 → IsLongest (Mark b) 1 bytes

@@ -34,8 +34,8 @@ abbrev pub is_sigil : ℕ → Bool
 is_sigil b = b == 92 || b == 36
 
 -- what an identifier is made of: neither white space nor a line feed
-abbrev pub is_name : ℕ → Bool
-is_name b = not (is_blank b || is_feed b)
+abbrev pub is_name_byte : ℕ → Bool
+is_name_byte b = not (is_blank b || is_feed b)
 
 -- a written bit: one of `0 1 x z m -`
 abbrev pub is_bit : ℕ → Bool

@@ -1,6 +1,6 @@
 -- The forms of tokens, as sets of spellings, after the Yosys RTLIL text representation.
 use Rattle.std.specs.Prelude.{◌≡◌, ℕ, ◌≤◌, ◌||◌, ◌==◌, ◌⊎◌, List, [], ◌∷◌, ◌++◌, length, take, IsTrue}
-use Rattle.rtlil_lex.specs.Bytes.{NoneOrMore, OneOrMore, is_letter, is_digit, is_sigil, is_name, is_bit, is_mark}
+use Rattle.rtlil_lex.specs.Bytes.{NoneOrMore, OneOrMore, is_letter, is_digit, is_sigil, is_name_byte, is_bit, is_mark}
 use Rattle.rtlil_lex.specs.Strings.{Character, text_of, AreCharacters}
 use Rattle.rtlil_lex.specs.declared.token.TokenKind.{TokenKind}
 use Rattle.rtlil_lex.specs.declared.token.TokenKind.TheVariants.{Word, Id, Int, Bits, Str, Mark, Eol}
@@ -8,7 +8,7 @@ use Rattle.rtlil_lex.specs.declared.token.TokenKind.TheVariants.{Word, Id, Int, 
 -- a backslash or `$`, and one or more bytes other than white space and line feed
 abbrev pub IsId : List ℕ → Type 0
 IsId [] = ⊥
-IsId (b ∷ bs) = IsTrue (is_sigil b) × OneOrMore is_name bs
+IsId (b ∷ bs) = IsTrue (is_sigil b) × OneOrMore is_name_byte bs
 
 -- an optional `-`, and one or more digits
 abbrev pub IsInt : List ℕ → Type 0

@@ -11,6 +11,10 @@ use Rattle.rtlil_lex.specs.declared.token.TokenKind.TheVariants.{Eol}
 use Rattle.rtlil_lex.specs.declared.fault.LexFault.{LexFault}
 use Rattle.rtlil_lex.specs.declared.fault.LexFault.TheVariants.{BadByte, OpenString, NoMemory}
 
+-- a text has at most so many bytes
+abbrev pub most_bytes : ℕ
+most_bytes = 67108864
+
 -- white space, or a `#`
 abbrev pub begins_gap : List ℕ → Bool
 begins_gap bytes = begins (λ b. is_blank b || b == 35) bytes
@@ -111,14 +115,14 @@ HasFault bytes (BadByte place) = IsBadByte bytes place
 HasFault bytes (OpenString place) = IsOpenString bytes place
 HasFault bytes NoMemory = Unit {0}
 
--- the answer is these tokens, unless memory ran out
+-- the answer is these tokens, unless memory was refused
 abbrev pub AnswersTokens : Result (Vec Token Global) LexFault → List Token → Type 0
 AnswersTokens (Ok v) tokens = v.items ≡ tokens
 AnswersTokens (Err NoMemory) tokens = Unit {0}
 AnswersTokens (Err (BadByte place)) tokens = ⊥
 AnswersTokens (Err (OpenString place)) tokens = ⊥
 
--- the answer is this fault, unless memory ran out
+-- the answer is this fault, unless memory was refused
 abbrev pub AnswersFault : Result (Vec Token Global) LexFault → LexFault → Type 0
 AnswersFault (Ok v) fault = ⊥
 AnswersFault (Err NoMemory) fault = Unit {0}

@@ -1,5 +1,7 @@
+//! The classes of bytes, and what a text begins with.
+
 ghost use Rattle.std.specs.Prelude.{◌≡◌, ◌==◌};
-ghost use Rattle.rtlil_lex.specs.Bytes.{is_letter, is_digit, is_octal, is_blank, is_sigil, is_name, is_bit, is_mark, begins, is_line_end};
+ghost use Rattle.rtlil_lex.specs.Bytes.{is_letter, is_digit, is_octal, is_blank, is_sigil, is_name_byte, is_bit, is_mark, begins, is_line_end};
 
 /// White space.
 pub fn is_blank(b: u8) -> bool
@@ -9,8 +11,8 @@ pub fn is_blank(b: u8) -> bool
 }
 
 /// What an identifier is made of.
-pub fn is_name(b: u8) -> bool
-    ensures { result ≡ is_name b }
+pub fn is_name_byte(b: u8) -> bool
+    ensures { result ≡ is_name_byte b }
 {
     !(is_blank(b) || b == b'\n')
 }

@@ -1,3 +1,5 @@
+//! The input, and how far it is read: over a gap, over a token, and at the end.
+
 ghost use Rattle.std.specs.Prelude.{◌≡◌, ◌+◌, ◌≤◌, ◌<◌, ◌^◌, ◌↔◌, length, drop, slice_range, IsTrue};
 ghost use Rattle.rtlil_lex.specs.Tokens.{IsGap, line_at};
 ghost use Rattle.rtlil_lex.specs.Next.{IsStep, feeds_of, offset_of, fault_of};

@@ -1,3 +1,5 @@
+//! Why a text has no list of tokens.
+
 use std::alloc::AllocFailed;
 use thiserror::Error;
 
@@ -10,8 +12,8 @@ pub enum LexFault {
     /// The double quote at this place is not closed on its line.
     #[error("the string at byte {0} is not closed on its line")]
     OpenString(u32),
-    /// There was no memory for the list.
-    #[error("out of memory")]
+    /// Memory was refused.
+    #[error("memory was refused")]
     NoMemory,
 }
 

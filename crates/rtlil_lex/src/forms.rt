@@ -1,6 +1,8 @@
+//! Runs of bytes of one class, and gaps.
+
 ghost use Rattle.std.specs.Prelude.{◌≡◌, ◌≤◌, length, take, drop};
 ghost use Rattle.std.specs.List.{prefix_len};
-ghost use Rattle.rtlil_lex.specs.Bytes.{is_letter, is_digit, is_name, is_bit, is_blank, is_inline};
+ghost use Rattle.rtlil_lex.specs.Bytes.{is_letter, is_digit, is_name_byte, is_bit, is_blank, is_inline};
 ghost use Rattle.rtlil_lex.specs.Tokens.{IsGap};
 
 use crate::bytes;
@@ -26,10 +28,13 @@ pub fn digits(bytes: &[u8]) -> usize
 /// How many bytes of a name the bytes begin with.
 #[tactic(auto, using(crate::proofs::Runs::run_within))]
 pub fn name(bytes: &[u8]) -> usize
-    ensures run { result ≡ prefix_len is_name bytes.now }
+    ensures run { result ≡ prefix_len is_name_byte bytes.now }
     ensures within { result ≤ length bytes.now }
 {
-    bytes.iter().take_while(|b| bytes::is_name(**b)).count()
+    bytes
+        .iter()
+        .take_while(|b| bytes::is_name_byte(**b))
+        .count()
 }
 
 /// How many written bits the bytes begin with.

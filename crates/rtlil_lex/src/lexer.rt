@@ -1,3 +1,5 @@
+//! The tokens of a text.
+
 ghost use Rattle.std.specs.Prelude.{◌≤◌, ℕ, List, length, IfOk, IfErr};
 ghost use Rattle.rtlil_lex.specs.Tokens.{AreTokens, IsBadByte, IsOpenString, HasFault, AnswersTokens, AnswersFault};
 ghost use Rattle.rtlil_lex.specs.declared.token.Token.{Token};
@@ -15,7 +17,7 @@ pub fn lex(alloc: Global, bytes: &[u8]) -> Result<Vec<Token>, LexFault>
     ensures tokens { IfOk result (λ v. AreTokens bytes.now v.items) }
     ensures fault { IfErr result (HasFault bytes.now) }
 
-    // What holds of the bytes is answered, unless memory ran out.
+    // What holds of the bytes is answered, unless memory was refused.
     ensures all_tokens { (tokens : List Token) → AreTokens bytes.now tokens
         → AnswersTokens result tokens }
     ensures all_bad_bytes { (place : ℕ) → IsBadByte bytes.now place

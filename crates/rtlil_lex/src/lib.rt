@@ -5,7 +5,7 @@
 //! line feed; at each place the longest one is taken. The end of the input gives one more end of line.
 //! What begins no token is a *fault*, and the first one from the left is answered.
 //!
-//! `lex` reads a text. The other functions have empty bodies: their contracts are laws of the definitions.
+//! [`lex`] reads a text. The other functions have empty bodies: their contracts are laws of the definitions.
 #![tactic(auto)]
 
 mod bytes;
@@ -20,7 +20,7 @@ mod token;
 
 pub use cursor::MOST_BYTES;
 pub use fault::LexFault;
-pub use laws::{no_token, one_form, one_list, one_outcome};
+pub use laws::{limits, no_token, one_form, one_list, one_outcome};
 pub use lexer::lex;
 pub use token::{Token, TokenKind};
 

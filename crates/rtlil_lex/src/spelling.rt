@@ -1,3 +1,5 @@
+//! The longest spelling at a place: a function for each form.
+
 ghost use Rattle.std.specs.Prelude.{◌≡◌, ◌==◌, ◌<◌, ◌≤◌, length, IsTrue};
 ghost use Rattle.rtlil_lex.specs.Bytes.{begins, is_letter, is_sigil, is_digit, is_feed, is_mark};
 ghost use Rattle.rtlil_lex.specs.Next.{IsNext, value_len};

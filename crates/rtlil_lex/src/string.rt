@@ -1,3 +1,5 @@
+//! The characters of a string, up to the quote that closes it.
+
 ghost use Rattle.std.specs.Prelude.{◌==◌, IsTrue};
 ghost use Rattle.rtlil_lex.specs.Bytes.{begins};
 ghost use Rattle.rtlil_lex.specs.Next.{IsPiece, IsStringEnd};

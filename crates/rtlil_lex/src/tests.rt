@@ -1,3 +1,5 @@
+//! Texts with their tokens or their fault, and what a fault says.
+
 ghost use Rattle.std.specs.Prelude.{◌≤◌, length};
 
 use crate::{LexFault, MOST_BYTES, lex};
@@ -80,6 +82,23 @@ fn texts(rt: HostRuntime) -> Result<(), Fail> {
         assert!(rt; bytes.len() <= MOST_BYTES);
         let answer = shown(rt.alloc(), bytes)?;
         assert_eq!(rt; answer.as_str(), *expected, "{text:?}");
+    }
+    Ok(())
+}
+
+#[test]
+fn says_what_is_wrong(rt: HostRuntime) -> Result<(), Fail> {
+    let alloc = rt.alloc();
+    for (fault, want) in [
+        (LexFault::BadByte(7), "byte 7 begins no token"),
+        (
+            LexFault::OpenString(0),
+            "the string at byte 0 is not closed on its line",
+        ),
+        (LexFault::NoMemory, "memory was refused"),
+    ] {
+        let said = format!(in alloc; "{fault}")?;
+        assert_eq!(rt; said.as_str(), want);
     }
     Ok(())
 }

@@ -1,3 +1,5 @@
+//! A token, and what kinds there are.
+
 /// What a token is.
 #[derive(Clone, Copy, Debug, PartialEq, Eq)]
 pub enum TokenKind {

@@ -28,4 +28,4 @@ returns-in_err-wired c =
 
 pub returns : goal.returns
 returns c =
-    is_narrow c.args.bytes.now c.deref.result.now c.in_ok-netlist.netlist c.if-bytes-gt-MAX_BYTES.false (c.in_ok-lines.ensures ∙ ap (λ lines. Some lines) (sym c.deref.ensures.value)) c.in_ok-netlist.ensures c.in_ok-wired.ensures
+    is_narrow c.args.bytes.now c.deref.result.now c.in_ok-netlist.netlist c.if-bytes-gt-MOST_BYTES.false (c.in_ok-lines.ensures ∙ ap (λ lines. Some lines) (sym c.deref.ensures.value)) c.in_ok-netlist.ensures c.in_ok-wired.ensures
