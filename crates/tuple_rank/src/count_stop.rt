@@ -1,0 +1,24 @@
+use std::alloc::AllocError;
+use thiserror::Error;
+
+/// Why tuples are not counted.
+#[derive(Debug, Drop, Error)]
+pub enum CountStop {
+    /// There are more than 2^62 tuples.
+    #[error("too many tuples")]
+    TooManyTuples,
+    /// Memory was refused.
+    #[error("no memory")]
+    NoMemory,
+}
+
+impl From<AllocError> for CountStop {
+    ghost use Rattle.std.specs.Prelude.{◌≡◌};
+    ghost use Rattle.tuple_rank.specs.declared.count_stop.CountStop.TheVariants.{NoMemory};
+
+    ghost from_gives = { λ _ stop. stop ≡ NoMemory };
+
+    fn from(_: AllocError) -> CountStop {
+        CountStop::NoMemory
+    }
+}
