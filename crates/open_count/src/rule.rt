@@ -1,0 +1,75 @@
+//! The rule of the words as the table keeps it, and what each kind of step tells its seat.
+
+ghost use Rattle.open_count.specs.Views.{newcomer};
+ghost use Rattle.open_count.specs.Rule.{IsKept};
+ghost use Rattle.open_count.specs.Steps.{Splits, Closes, LoadsOpen, Fails, LoadsBest, Stops, LoadsStop};
+
+use crate::view::CountView;
+use atomic_table::{Play, Split, TableRule};
+
+/// The rule of the words. The table is told the roots.
+pub struct Words;
+
+impl TableRule<(), CountView, u64> for Words {
+    ghost holds = { IsKept };
+
+    ghost first = { λ roots. newcomer };
+}
+
+/// Adds on the open word.
+pub struct SplitStep;
+
+impl Play<(), CountView> for SplitStep {
+    ghost then = { Splits };
+}
+
+/// Subtracts on the open word.
+pub struct CloseStep;
+
+impl Play<(), CountView> for CloseStep {
+    ghost then = { Closes };
+}
+
+/// Loads the open word.
+pub struct OpenStep;
+
+impl Play<(), CountView> for OpenStep {
+    ghost then = { LoadsOpen };
+}
+
+/// Lowers the best word.
+pub struct FailStep;
+
+impl Play<(), CountView> for FailStep {
+    ghost then = { Fails };
+}
+
+/// Loads the best word.
+pub struct BestStep;
+
+impl Play<(), CountView> for BestStep {
+    ghost then = { LoadsBest };
+}
+
+/// Sets the stop word.
+pub struct StopStep;
+
+impl Play<(), CountView> for StopStep {
+    ghost then = { Stops };
+}
+
+/// Loads the stop word.
+pub struct StoppedStep;
+
+impl Play<(), CountView> for StoppedStep {
+    ghost then = { LoadsStop };
+}
+
+/// Makes a seat that has done and seen nothing.
+pub struct Newcomer;
+
+impl Split<CountView> for Newcomer {
+    ghost left = { λ v. v };
+
+    ghost right = { λ v. newcomer };
+}
