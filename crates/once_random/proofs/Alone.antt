@@ -29,7 +29,7 @@ module _ (test : ℕ → Bool) where
   abbrev one_if : ℕ → ℕ
   one_if i = if test i then 1 else 0
 
-  count_none : (n : ℕ) → ((i : ℕ) → i < n → test i ≡ false) → count_below n test ≡ 0
+  pub count_none : (n : ℕ) → ((i : ℕ) → i < n → test i ≡ false) → count_below n test ≡ 0
   count_none zero h = refl
   count_none (suc n) h = sum_is _ _ 0 0 0 (count_none n (λ i l. h i (omega arith))) (cond-false (test n) 1 0 (h n (omega arith))) refl
 

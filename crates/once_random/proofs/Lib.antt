@@ -10,5 +10,6 @@ pub mod RootRows
 pub mod LeafCounts
 pub mod Saturated
 pub mod LeastChain
+pub mod Subsets
 pub mod Provable
 pub mod OneProbe

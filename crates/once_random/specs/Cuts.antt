@@ -4,9 +4,9 @@ use Rattle.std.specs.Prelude.{ℕ, ◌==◌, zero, suc, Bool, true, false, not, 
 use Rattle.std.specs.Option.{option_map_or}
 use Rattle.expr_table.specs.declared.node.Node.{Node}
 use Rattle.expr_table.specs.declared.node.Node.TheVariants as node
-use Rattle.expr_table.specs.Table.{Table, IsTable, node_at, has}
+use Rattle.expr_table.specs.Table.{node_at, has}
 use Rattle.once_random.specs.Numbers.{all_below, least_below}
-use Rattle.once_random.specs.Live.{AreRows, is_live, is_live_parent}
+use Rattle.once_random.specs.Live.{is_live, is_live_parent}
 
 -- a random leaf
 abbrev pub is_random : Node → Bool
@@ -60,12 +60,3 @@ least_after nodes roots (suc n) cuts = option_map_or (λ e. least_after nodes ro
 -- cut twice, so there are no more cuts than rows.
 unfoldable pub least_chain : List Node → List ℕ → List ℕ
 least_chain nodes roots = least_after nodes roots (length nodes) []
-
--- the least chain is a chain, and no live row may be cut after it
-abbrev pub LeastChainIsFull : Type 0
-LeastChainIsFull = (nodes : List Node) (roots : List ℕ) → IsChain nodes roots (least_chain nodes roots) × IsSaturated nodes roots (least_chain nodes roots)
-
--- what the least chain leaves live, every chain leaves live
-abbrev pub LeastChainLeavesLeast : Type 0
-LeastChainLeavesLeast = (table : Table) (roots cuts : List ℕ) → IsTable table → AreRows table.nodes roots → IsChain table.nodes roots cuts
-    → (row : ℕ) → IsTrue (is_live table.nodes roots (least_chain table.nodes roots) row) → IsTrue (is_live table.nodes roots cuts row)

@@ -2,6 +2,7 @@ pub mod Numbers
 pub mod Live
 pub mod Cuts
 pub mod Groups
+pub mod Provable
 pub mod Tuples
 pub mod Sets
 pub mod Flags

@@ -1,8 +1,8 @@
 -- Live rows: those that the roots still read, once some rows are cut.
 -- Roots and cuts are lists of row numbers.
-use Rattle.std.specs.Prelude.{ℕ, zero, suc, ◌<◌, Bool, not, ◌&&◌, if◌then◌else◌, IsTrue, List, ◌++◌, length}
+use Rattle.std.specs.Prelude.{ℕ, zero, suc, ◌<◌, ◌≡◌, Bool, not, ◌&&◌, if◌then◌else◌, IsTrue, List, ◌++◌, length}
 use Rattle.expr_table.specs.declared.node.Node.{Node}
-use Rattle.expr_table.specs.Table.{Table, IsTable, node_at, sides, has}
+use Rattle.expr_table.specs.Table.{node_at, sides, has}
 
 -- What is reached from the rows wanted, over the rows below n, from the last to the first; a row that is cut leads no further.
 abbrev pub reached : List Node → List ℕ → ℕ → List ℕ → List ℕ
@@ -11,13 +11,21 @@ reached nodes cuts (suc row) wanted =
     reached nodes cuts row (if has wanted row && not (has cuts row) then sides (node_at nodes row) ++ wanted else wanted)
 
 -- The row is live: it is one of the least set that holds the roots and both sides of each And or Xor that
--- it holds and that is not cut. The law `LiveIsLeast` says that it is that set.
+-- it holds and that is not cut. The law `live_is_least` says that it is that set.
 unfoldable pub is_live : List Node → List ℕ → List ℕ → ℕ → Bool
 is_live nodes roots cuts row = has (reached nodes cuts (length nodes) roots) row
 
 -- the list's numbers are rows
 abbrev pub AreRows : List Node → List ℕ → Type 0
 AreRows nodes rows = (row : ℕ) → IsTrue (has rows row) → row < length nodes
+
+-- each of these rows is among the others
+abbrev pub AreAmong : List ℕ → List ℕ → Type 0
+AreAmong rows others = (row : ℕ) → IsTrue (has rows row) → IsTrue (has others row)
+
+-- the lists hold the same rows, in whatever order
+abbrev pub AreSameRows : List ℕ → List ℕ → Type 0
+AreSameRows rows others = (row : ℕ) → has rows row ≡ has others row
 
 -- The set holds the roots and both sides of each And or Xor that it holds and that is not cut. Other nodes have no sides.
 pub record IsClosed (nodes : List Node) (roots cuts : List ℕ) (holds : ℕ → Bool) : Type 0 where
@@ -28,9 +36,6 @@ pub record IsClosed (nodes : List Node) (roots cuts : List ℕ) (holds : ℕ →
 pub record IsLeastClosed (nodes : List Node) (roots cuts : List ℕ) (holds : ℕ → Bool) : Type 0 where
   pub closed : IsClosed nodes roots cuts holds
   pub least : (other : ℕ → Bool) → IsClosed nodes roots cuts other → (row : ℕ) → IsTrue (holds row) → IsTrue (other row)
-
-abbrev pub LiveIsLeast : Type 0
-LiveIsLeast = (table : Table) (roots cuts : List ℕ) → IsTable table → AreRows table.nodes roots → IsLeastClosed table.nodes roots cuts (is_live table.nodes roots cuts)
 
 -- the other row is live, is not cut and has the row as a side
 abbrev pub is_live_parent : List Node → List ℕ → List ℕ → ℕ → ℕ → Bool

@@ -1,14 +1,12 @@
 -- Tuples of probes, their roots and bounds, and when they are proved. A tuple is a list of probe numbers.
-use Rattle.std.specs.Prelude.{ℕ, ◌↔◌, Bool, not, IsTrue, List, [], ◌∷◌, ◌++◌, map, length, count_by, find, Option, slice_index_or, false}
+use Rattle.std.specs.Prelude.{ℕ, Bool, not, List, [], ◌∷◌, ◌++◌, map, length, count_by, find, Option, slice_index_or, false}
 use Rattle.std.specs.List.{range_with_len}
 use Rattle.expr_table.specs.declared.instance.Instance.{Instance}
 use Rattle.expr_table.specs.declared.instance.Notion.{Notion}
 use Rattle.expr_table.specs.declared.instance.Notion.TheVariants.{Probing, Ni, Sni}
 use Rattle.expr_table.specs.declared.instance.ProbeRoots.{ProbeRoots}
-use Rattle.expr_table.specs.Instance.{rows_of, IsFitting}
-use Rattle.expr_table.specs.Table.{IsTable}
-use Rattle.once_random.specs.Cuts.{IsChain, least_chain}
-use Rattle.once_random.specs.Groups.{is_within}
+use Rattle.expr_table.specs.Instance.{rows_of}
+use Rattle.once_random.specs.Provable.{is_provable}
 
 -- a probe by its number
 abbrev pub probe_at : List ProbeRoots → ℕ → ProbeRoots
@@ -34,14 +32,9 @@ bound_of_notion Sni x tuple = internal_probes x tuple
 abbrev pub bound_of : Instance → List ℕ → ℕ
 bound_of x tuple = bound_of_notion x.notion x tuple
 
--- the least chain leaves the live leaves within the tuple's bound
+-- the tuple's roots are provable within its bound
 unfoldable pub is_proved : Instance → List ℕ → Bool
-is_proved x tuple = is_within x (roots_of x tuple) (least_chain x.table.nodes (roots_of x tuple)) (bound_of x tuple)
-
--- some chain leaves the live leaves within the tuple's bound
-abbrev pub IsProvable : Instance → List ℕ → Type 0
-IsProvable x tuple =
-    (cuts : List ℕ) × IsChain x.table.nodes (roots_of x tuple) cuts × IsTrue (is_within x (roots_of x tuple) cuts (bound_of x tuple))
+is_proved x tuple = is_provable x (roots_of x tuple) (bound_of x tuple)
 
 -- the tuples of one probe, in order
 abbrev pub tuples_of_one : Instance → List (List ℕ)
@@ -50,7 +43,3 @@ tuples_of_one x = map (λ p. p ∷ []) (range_with_len 0 (length x.probes))
 -- the first of the tuples that is not proved
 abbrev pub first_unproved : Instance → List (List ℕ) → Option (List ℕ)
 first_unproved x tuples = find (λ tuple. not (is_proved x tuple)) tuples
-
--- a tuple is proved exactly where it is provable
-abbrev pub ProvedIsProvable : Type 0
-ProvedIsProvable = (x : Instance) (tuple : List ℕ) → IsTable x.table → IsFitting x → IsTrue (is_proved x tuple) ↔ IsProvable x tuple

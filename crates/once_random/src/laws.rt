@@ -1,24 +1,95 @@
-ghost use Rattle.once_random.specs.Cuts.{LeastChainIsFull, LeastChainLeavesLeast};
-ghost use Rattle.once_random.specs.Live.{LiveIsLeast};
-ghost use Rattle.once_random.specs.Tuples.{ProvedIsProvable};
+//! What a reader and the crates above may want to know of the definitions. Each law is a contract over all
+//! tables or instances; its body is empty.
+ghost use Rattle.std.specs.Prelude.{◌≡◌, ◌≤◌, ◌↔◌, ℕ, List, IsTrue};
+ghost use Rattle.expr_table.specs.declared.instance.Instance.{Instance};
+ghost use Rattle.expr_table.specs.declared.node.Node.{Node};
+ghost use Rattle.expr_table.specs.Instance.{IsFitting};
+ghost use Rattle.expr_table.specs.Table.{Table, IsTable};
+ghost use Rattle.once_random.specs.Cuts.{IsChain, IsSaturated, least_chain, may_be_cut};
+ghost use Rattle.once_random.specs.Groups.{is_within, live_leaves};
+ghost use Rattle.once_random.specs.Live.{AreAmong, AreRows, AreSameRows, IsLeastClosed, is_live};
+ghost use Rattle.once_random.specs.Provable.{IsProvable, is_provable};
+ghost use Rattle.once_random.specs.Tuples.{bound_of, is_proved, roots_of};
 
 /// The live rows are the least set that holds the roots and both sides of each And or Xor that it holds
 /// and that is not cut.
 pub fn live_is_least()
-    ensures { LiveIsLeast }
+    ensures { (table : Table) (roots cuts : List ℕ) → IsTable table → AreRows table.nodes roots
+        → IsLeastClosed table.nodes roots cuts (is_live table.nodes roots cuts) }
 {}
 
 /// The least chain is a chain, and no live row may be cut after it.
 pub fn least_chain_is_full()
-    ensures { LeastChainIsFull }
+    ensures chain { (nodes : List Node) (roots : List ℕ) → IsChain nodes roots (least_chain nodes roots) }
+    ensures full { (nodes : List Node) (roots : List ℕ) → IsSaturated nodes roots (least_chain nodes roots) }
 {}
 
-/// What the least chain leaves live, every chain leaves live.
-pub fn least_chain_leaves_least()
-    ensures { LeastChainLeavesLeast }
+/// Cuts after which no live row may be cut leave live only what every chain leaves live.
+pub fn saturated_leaves_least()
+    ensures { (table : Table) (roots full cuts : List ℕ) → IsTable table → AreRows table.nodes roots
+        → IsSaturated table.nodes roots full → IsChain table.nodes roots cuts
+        → (row : ℕ) → IsTrue (is_live table.nodes roots full row) → IsTrue (is_live table.nodes roots cuts row) }
 {}
 
-/// The least chain leaves the live leaves within a tuple's bound exactly where some chain does.
+/// A chain after which no live row may be cut leaves live exactly what the least chain leaves live,
+/// whatever the order of its cuts. So it decides what is provable.
+pub fn saturated_chain_decides()
+    ensures live { (table : Table) (roots cuts : List ℕ) → IsTable table → AreRows table.nodes roots
+        → IsChain table.nodes roots cuts → IsSaturated table.nodes roots cuts
+        → (row : ℕ)
+        → is_live table.nodes roots cuts row ≡ is_live table.nodes roots (least_chain table.nodes roots) row }
+    ensures provable { (x : Instance) (roots cuts : List ℕ) (m : ℕ) → IsTable x.table → AreRows x.table.nodes roots
+        → IsChain x.table.nodes roots cuts → IsSaturated x.table.nodes roots cuts
+        → is_within x roots cuts m ≡ is_provable x roots m }
+{}
+
+/// The least chain leaves the live leaves within a bound exactly where some chain does.
+pub fn least_chain_decides()
+    ensures { (x : Instance) (roots : List ℕ) (m : ℕ) → IsTable x.table → AreRows x.table.nodes roots
+        → IsTrue (is_provable x roots m) ↔ IsProvable x roots m }
+{}
+
+/// A chain for roots is a chain for each subset of them, and leaves the subset within each bound within which
+/// it leaves the roots. So what is provable is provable for each subset.
+pub fn subset_keeps_chain()
+    ensures chain { (nodes : List Node) (roots some cuts : List ℕ) → AreAmong some roots
+        → IsChain nodes roots cuts → IsChain nodes some cuts }
+    ensures within { (x : Instance) (roots some cuts : List ℕ) (m : ℕ) → AreAmong some roots
+        → IsTrue (is_within x roots cuts m) → IsTrue (is_within x some cuts m) }
+    ensures provable { (x : Instance) (roots some : List ℕ) (m : ℕ) → AreAmong some roots
+        → IsProvable x roots m → IsProvable x some m }
+{}
+
+/// What is live and what may be cut depend on the roots and the cuts as sets alone; the least chain and what is
+/// provable depend on the roots as a set alone.
+pub fn roots_are_a_set()
+    ensures live { (nodes : List Node) (roots others cuts more : List ℕ)
+        → AreSameRows roots others → AreSameRows cuts more
+        → (row : ℕ) → is_live nodes roots cuts row ≡ is_live nodes others more row }
+    ensures cut { (nodes : List Node) (roots others cuts more : List ℕ)
+        → AreSameRows roots others → AreSameRows cuts more
+        → (row : ℕ) → may_be_cut nodes roots cuts row ≡ may_be_cut nodes others more row }
+    ensures least { (nodes : List Node) (roots others : List ℕ) → AreSameRows roots others
+        → least_chain nodes roots ≡ least_chain nodes others }
+    ensures provable { (x : Instance) (roots others : List ℕ) (m : ℕ) → AreSameRows roots others
+        → is_provable x roots m ≡ is_provable x others m }
+{}
+
+/// In a fitting instance the live leaves are within a bound exactly where every group has at most so many.
+pub fn within_is_each_group()
+    ensures { (x : Instance) (roots cuts : List ℕ) (m : ℕ) → IsFitting x
+        → IsTrue (is_within x roots cuts m) ↔ ((group : ℕ) → live_leaves x roots cuts group ≤ m) }
+{}
+
+/// The roots of a tuple are rows of the table, and those of some of its probes are among them.
+pub fn tuples_have_roots()
+    ensures rows { (x : Instance) (tuple : List ℕ) → IsFitting x → AreRows x.table.nodes (roots_of x tuple) }
+    ensures among { (x : Instance) (tuple some : List ℕ) → AreAmong some tuple
+        → AreAmong (roots_of x some) (roots_of x tuple) }
+{}
+
+/// A tuple is proved exactly where some chain for its roots leaves the live leaves within its bound.
 pub fn proved_is_provable()
-    ensures { ProvedIsProvable }
+    ensures { (x : Instance) (tuple : List ℕ) → IsTable x.table → IsFitting x
+        → IsTrue (is_proved x tuple) ↔ IsProvable x (roots_of x tuple) (bound_of x tuple) }
 {}

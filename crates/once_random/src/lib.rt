@@ -29,7 +29,11 @@ mod scratch;
 pub use bit_row::BitRow;
 pub use bounds::bound;
 pub use engine::{chain, is_proved, leaves_within};
-pub use laws::{least_chain_is_full, least_chain_leaves_least, live_is_least, proved_is_provable};
+pub use laws::{
+    least_chain_decides, least_chain_is_full, live_is_least, proved_is_provable, roots_are_a_set,
+    saturated_chain_decides, saturated_leaves_least, subset_keeps_chain, tuples_have_roots,
+    within_is_each_group,
+};
 pub use scratch::Scratch;
 
 /// Memory was refused.

@@ -3,13 +3,14 @@ use Rattle.std.proofs.lemmas.List.{reverse-reverse}
 use Rattle.expr_table.specs.declared.node.Row.{Row}
 use Rattle.once_random.specs.Cuts.{least_chain}
 use Rattle.once_random.specs.Groups.{is_within}
+use Rattle.once_random.specs.Provable.{is_provable}
 use Rattle.once_random.specs.Sets.{members}
 use Rattle.once_random.specs.Tuples.{is_proved, roots_of}
 use Rattle.once_random.proofs.Chains.{numbers}
 use Rattle.once_random.proofs.engine.is_proved.Goals as goal
 
 pub returns-clause-proved : goal.returns-clause-proved
-unfolding is_proved
+unfolding is_proved is_provable
 returns-clause-proved c =
     let x = c.args.instance.now in
     let roots = roots_of c.args.instance.now (members c.args.probes.now) in
