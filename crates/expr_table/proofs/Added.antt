@@ -6,8 +6,8 @@ use Rattle.expr_table.specs.declared.node.Node.{Node}
 use Rattle.expr_table.specs.declared.node.Row.{Row}
 use Rattle.expr_table.specs.declared.node.Node.TheVariants as node
 use Rattle.expr_table.specs.Term.{Term, Zero, term_cmp}
-use Rattle.expr_table.specs.Table.{Table, IsTable, IsRowOf, node_at, sides, has, has_term, with_term, terms, term_of, term_at}
-use Rattle.expr_table.specs.Places.{IsAbsent, IsPlaceable}
+use Rattle.expr_table.specs.Table.{Table, IsTable, IsRowOf, most_rows, node_at, sides, has, has_term, with_term, terms, term_of, term_at}
+use Rattle.expr_table.specs.Interning.{IsAbsent, IsOrderedGate}
 use Rattle.expr_table.proofs.Rows.{SidesBelow, SidesBelow-weaker, sides-from_below, length-terms, terms-push, term_at-append, AreDistinct, node_from_term, row-below, row-term, row-distinct, has_term-absent, with_term-absent}
 
 -- the table with one more row
@@ -45,7 +45,7 @@ each_row ns n row P old new none =
     (cases_lt (length ns) row))
     (cases_lt row (length ns))
 
-not_Input : (ns : List Node) (n : Node) (i : ℕ) → IsPlaceable ns n → n ≡ node.Input i → ⊥
+not_Input : (ns : List Node) (n : Node) (i : ℕ) → IsOrderedGate ns n → n ≡ node.Input i → ⊥
 not_Input ns node.Zero i is e = is
 not_Input ns node.One i is e = is
 not_Input ns (node.Input j) i is e = is
@@ -53,7 +53,7 @@ not_Input ns (node.Random j) i is e = is
 not_Input ns (node.And a b) i is e = cc
 not_Input ns (node.Xor a b) i is e = cc
 
-not_Random : (ns : List Node) (n : Node) (i : ℕ) → IsPlaceable ns n → n ≡ node.Random i → ⊥
+not_Random : (ns : List Node) (n : Node) (i : ℕ) → IsOrderedGate ns n → n ≡ node.Random i → ⊥
 not_Random ns node.Zero i is e = is
 not_Random ns node.One i is e = is
 not_Random ns (node.Input j) i is e = is
@@ -61,17 +61,17 @@ not_Random ns (node.Random j) i is e = is
 not_Random ns (node.And a b) i is e = cc
 not_Random ns (node.Xor a b) i is e = cc
 
-placeable-below : (ns : List Node) (n : Node) → IsPlaceable ns n → SidesBelow (length ns) n
-placeable-below ns node.Zero is = tt
-placeable-below ns node.One is = tt
-placeable-below ns (node.Input j) is = tt
-placeable-below ns (node.Random j) is = tt
-placeable-below ns (node.And a b) is = (is.0, is.1)
-placeable-below ns (node.Xor a b) is = (is.0, is.1)
+ordered-below : (ns : List Node) (n : Node) → IsOrderedGate ns n → SidesBelow (length ns) n
+ordered-below ns node.Zero is = tt
+ordered-below ns node.One is = tt
+ordered-below ns (node.Input j) is = tt
+ordered-below ns (node.Random j) is = tt
+ordered-below ns (node.And a b) is = (is.0, is.1)
+ordered-below ns (node.Xor a b) is = (is.0, is.1)
 
-module _ (t : Table) (n : Node) (table : IsTable t) (is : IsPlaceable t.nodes n) where
+module _ (t : Table) (n : Node) (table : IsTable t) (is : IsOrderedGate t.nodes n) where
   below-term : SidesBelow (length (terms t.nodes)) n
-  below-term = SidesBelow-weaker (length t.nodes) (length (terms t.nodes)) n (omega (arith, length-terms t.nodes)) (placeable-below t.nodes n is)
+  below-term = SidesBelow-weaker (length t.nodes) (length (terms t.nodes)) n (omega (arith, length-terms t.nodes)) (ordered-below t.nodes n is)
 
   -- an absent node's term is in no row
   new_term : IsAbsent t.nodes n → (i : ℕ) → i < length (terms t.nodes) → term_at (terms t.nodes) i ≡ term_of (terms t.nodes) n → ⊥
@@ -92,13 +92,13 @@ module _ (t : Table) (n : Node) (table : IsTable t) (is : IsPlaceable t.nodes n)
   old_order a b al bl e =
       (λ i. term_cmp (term_at-append t.nodes (n ∷ []) a.0 al i) (term_at-append t.nodes (n ∷ []) b.0 bl i)) ∙ e
 
-  placeable-And : (a b : Row) → n ≡ node.And a b → IsPlaceable t.nodes (node.And a b)
-  placeable-And a b e = subst (IsPlaceable t.nodes) e is
+  ordered-And : (a b : Row) → n ≡ node.And a b → IsOrderedGate t.nodes (node.And a b)
+  ordered-And a b e = subst (IsOrderedGate t.nodes) e is
 
-  placeable-Xor : (a b : Row) → n ≡ node.Xor a b → IsPlaceable t.nodes (node.Xor a b)
-  placeable-Xor a b e = subst (IsPlaceable t.nodes) e is
+  ordered-Xor : (a b : Row) → n ≡ node.Xor a b → IsOrderedGate t.nodes (node.Xor a b)
+  ordered-Xor a b e = subst (IsOrderedGate t.nodes) e is
 
-  pub IsTable-added : length t.nodes < 524288 → IsAbsent t.nodes n → IsTable (pushed t n)
+  pub IsTable-added : length t.nodes < most_rows → IsAbsent t.nodes n → IsTable (pushed t n)
   IsTable-added room absent = record {
     zero_row = slice_get-left t.nodes (n ∷ []) 0 node.Zero table.zero_row;
     one_row = slice_get-left t.nodes (n ∷ []) 1 node.One table.one_row;
@@ -107,13 +107,13 @@ module _ (t : Table) (n : Node) (table : IsTable t) (is : IsPlaceable t.nodes n)
     input_once = λ row i. each_row t.nodes n row (λ m. m ≡ node.Input i → (i < t.inputs) × (row ≡ 2 + i)) (λ p. table.input_once row i) (λ at e. absurd (not_Input t.nodes n i is e)) (λ e. cc);
     random_once = λ row i. each_row t.nodes n row (λ m. m ≡ node.Random i → (i < t.randoms) × (row ≡ 2 + t.inputs + i)) (λ p. table.random_once row i) (λ at e. absurd (not_Random t.nodes n i is e)) (λ e. cc);
     earlier = λ row. each_row t.nodes n row (λ m. (side : ℕ) → IsTrue (has (sides m) side) → side < row) (λ p. table.earlier row)
-        (λ at. sides-from_below row n (subst (λ k. SidesBelow k n) (sym at) (placeable-below t.nodes n is))) (λ side h. cc);
+        (λ at. sides-from_below row n (subst (λ k. SidesBelow k n) (sym at) (ordered-below t.nodes n is))) (λ side h. cc);
     and_ordered = λ row a b. each_row t.nodes n row (λ m. m ≡ node.And a b → term_cmp (term_at (terms (t.nodes ++ n ∷ [])) a.0) (term_at (terms (t.nodes ++ n ∷ [])) b.0) ≡ Less)
         (λ p e. let below : SidesBelow row (node.And a b) = subst (SidesBelow row) e (row-below t table row) in old_order a b (omega arith) (omega arith) (table.and_ordered row a b e))
-        (λ at e. let p = placeable-And a b e in old_order a b p.0 p.1 p.2) (λ e. cc);
+        (λ at e. let p = ordered-And a b e in old_order a b p.0 p.1 p.2) (λ e. cc);
     xor_ordered = λ row a b. each_row t.nodes n row (λ m. m ≡ node.Xor a b → term_cmp (term_at (terms (t.nodes ++ n ∷ [])) a.0) (term_at (terms (t.nodes ++ n ∷ [])) b.0) ≡ Less)
         (λ p e. let below : SidesBelow row (node.Xor a b) = subst (SidesBelow row) e (row-below t table row) in old_order a b (omega arith) (omega arith) (table.xor_ordered row a b e))
-        (λ at e. let p = placeable-Xor a b e in old_order a b p.0 p.1 p.2) (λ e. cc);
+        (λ at e. let p = ordered-Xor a b e in old_order a b p.0 p.1 p.2) (λ e. cc);
     distinct = λ row other rl ol e.
         let apart = subst AreDistinct (sym (terms-push t.nodes n)) (AreDistinct-push (terms t.nodes) (term_of (terms t.nodes) n) (row-distinct t table) (new_term absent)) in
         apart row other (omega (arith, length-terms (t.nodes ++ n ∷ []))) (omega (arith, length-terms (t.nodes ++ n ∷ []))) e;

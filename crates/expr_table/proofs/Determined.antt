@@ -11,7 +11,8 @@ use Rattle.expr_table.proofs.Rows.{SidesBelow, SidesBelow-weaker, AreDistinct, l
 AreDistinct-tail : (s : Term) (ss : List Term) → AreDistinct (s ∷ ss) → AreDistinct ss
 AreDistinct-tail s ss apart i j il jl e = let same = apart (suc i) (suc j) (omega arith) (omega arith) e in omega arith
 
-place_of-at : (ts : List Term) → AreDistinct ts → (i : ℕ) → i < length ts → place_of ts (term_at ts i) ≡ i
+-- a term of a list of distinct ones stands first where it stands
+pub place_of-at : (ts : List Term) → AreDistinct ts → (i : ℕ) → i < length ts → place_of ts (term_at ts i) ≡ i
 place_of-at [] apart i lt = absurd (omega arith)
 place_of-at (s ∷ ss) apart zero lt = cond-true (is_same s s) 0 _ (is_same-equal s s refl)
 place_of-at (s ∷ ss) apart (suc i) lt =

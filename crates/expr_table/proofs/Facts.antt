@@ -6,10 +6,16 @@ use Rattle.expr_table.specs.declared.node.Node.{Node}
 use Rattle.expr_table.specs.declared.node.Row.{Row}
 use Rattle.expr_table.specs.declared.node.Node.TheVariants as node
 use Rattle.expr_table.specs.Term.{Term, term_cmp}
-use Rattle.expr_table.specs.Table.{Table, IsTable, IsRowOf, Extends, node_at, terms, term_at, term_of}
+use Rattle.expr_table.specs.Table.{Table, IsTable, IsRowOf, Extends, node_at, terms, term_at, term_of, place_of}
 use Rattle.expr_table.proofs.Order.{cmp_self}
 use Rattle.expr_table.proofs.Rows as rows
 use Rattle.expr_table.proofs.Added.{slice_get-left}
+use Rattle.expr_table.proofs.Determined.{place_of-at}
+-- the terms of a list and where they stand, the rows of a new table, the values of the gates
+pub use Rattle.expr_table.proofs.Order.{is_same-exact, is_same-equal}
+pub use Rattle.expr_table.proofs.Rows.{length-terms, term_at-append, has_term-row, with_term-there, with_term-absent, Extends-self}
+pub use Rattle.expr_table.proofs.Leaves.{length-leaves}
+pub use Rattle.expr_table.proofs.Values.{eval-xor_of, eval-and_of, xor-self, xor-false, xor-turned}
 
 -- a term is not less than itself
 not_below_itself : (s t : Term) → s ≡ t → term_cmp s t ≡ Less → ⊥
@@ -41,9 +47,10 @@ module _ (t : Table) (table : IsTable t) where
   pub same_row : (row other : ℕ) (s : Term) → IsRowOf t.nodes row s → IsRowOf t.nodes other s → row ≡ other
   same_row row other s first second = table.distinct row other first.within second.within (first.term ∙ sym second.term)
 
--- there are as many terms as rows
-pub length-terms : (ns : List Node) → length (terms ns) ≡ length ns
-length-terms = rows.length-terms
+  -- and it is where the term stands among the terms
+  pub place_of-row : (row : ℕ) (s : Term) → IsRowOf t.nodes row s → place_of (terms t.nodes) s ≡ row
+  place_of-row row s is =
+      ap (place_of (terms t.nodes)) (sym is.term) ∙ place_of-at (terms t.nodes) (rows.row-distinct t table) row (omega (arith, is.within, length-terms t.nodes))
 
 -- a row's node, by both words for it
 pub node_at-slice_get : (ns : List Node) (row : ℕ) (n : Node) → slice_get ns row ≡ Some n → (row < length ns) × (node_at ns row ≡ n)
@@ -65,9 +72,6 @@ module _ (old new : Table) (more : Extends old new) where
 
   pub Extends-row : (row : ℕ) (s : Term) → IsRowOf old.nodes row s → IsRowOf new.nodes row s
   Extends-row row s is = record { within = omega (arith, is.within, Extends-length); term = Extends-term_at row is.within ∙ is.term }
-
-pub Extends-self : (t : Table) → Extends t t
-Extends-self = rows.Extends-self
 
 pub Extends-trans : (a b c : Table) → Extends a b → Extends b c → Extends a c
 Extends-trans a b c first second = record {

@@ -7,7 +7,7 @@ use Rattle.std.specs.Map.{lookup, keys_of}
 use Rattle.expr_table.specs.contracts.node.NodePartialEq.TheImpl.{eq-value}
 use Rattle.expr_table.specs.declared.node.Node.{Node}
 use Rattle.expr_table.specs.declared.node.Node.TheVariants as node
-use Rattle.expr_table.specs.Places.{numbered, IsNumbered, IsAbsent}
+use Rattle.expr_table.specs.Interning.{numbered, IsNumbered, IsAbsent}
 use Rattle.expr_table.specs.Table.{node_at}
 
 abbrev pub same_node : Node → Node → Bool

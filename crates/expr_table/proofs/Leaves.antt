@@ -6,8 +6,8 @@ use Rattle.std.proofs.lemmas.Option.{slice_get-get_or}
 use Rattle.expr_table.specs.declared.node.Node.{Node}
 use Rattle.expr_table.specs.declared.node.Node.TheVariants as node
 use Rattle.expr_table.specs.Term.{Term, Zero, One, Input, Random, And, Xor, term_cmp}
-use Rattle.expr_table.specs.Table.{IsTable, node_at, sides, has, terms, term_of, term_at, numbered_leaves, leaves, new_table}
-use Rattle.expr_table.specs.Places.{IsAbsent}
+use Rattle.expr_table.specs.Table.{IsTable, most_rows, node_at, sides, has, terms, term_of, term_at, numbered_leaves, leaves, new_table}
+use Rattle.expr_table.specs.Interning.{IsAbsent}
 use Rattle.expr_table.proofs.Rows.{SidesBelow, term_at-node}
 
 module _ (leaf : ℕ → Node) where
@@ -109,7 +109,7 @@ module _ (inputs randoms : ℕ) where
       ap row_of (term_at-node (leaves inputs randoms) leaf-below row lt)
       ∙ each_leaf row (λ m. row_of (term_of (terms (leaves inputs randoms)) m) ≡ row) (λ first. sym (first (omega (arith, length-leaves inputs randoms)))) (λ at. sym at) (λ i il at. sym at) (λ i il at. sym at)
 
-  pub IsTable-new : 2 + inputs + randoms ≤ 524288 → IsTable (new_table inputs randoms)
+  pub IsTable-new : 2 + inputs + randoms ≤ most_rows → IsTable (new_table inputs randoms)
   IsTable-new few = record {
     zero_row = refl;
     one_row = refl;

@@ -5,6 +5,10 @@ pub mod Added
 pub mod Leaves
 pub mod Steps
 pub mod Xors
+pub mod Ands
+pub mod Ordered
+pub mod Values
+pub mod Interned
 pub mod Determined
 pub mod Facts
 pub mod Turned

@@ -1,10 +1,12 @@
--- The exclusive or of two terms the other way round.
+-- The gates of two terms the other way round.
 use Rattle.std.proofs.Common.{◌≡◌, Option, None, Some, unwrap_or, Ordering, Less, Equal, Greater, ◌⊎◌, inl, inr, refl, sym, ap, ◌∙◌, ⊎_elim}
 use Rattle.std.specs.Ordering.{ordering_reverse}
 use Rattle.std.proofs.lemmas.Bool.{cases_Bool}
-use Rattle.expr_table.specs.Term.{Term, Zero, One, Xor, term_cmp, is_same, xor_of, without_one, ordered_xor}
+use Rattle.expr_table.specs.Term.{Term, Zero, One, Xor, term_cmp, is_same, xor_of, and_of, without_one, ordered_xor, ordered_and}
 use Rattle.expr_table.proofs.Order.{is_same-exact, is_same-equal, cmp_exact, cmp_antisymm}
-use Rattle.expr_table.proofs.Xors.{xor_of-same, xor_of-zero_left, xor_of-zero_right, xor_of-other, ordered_xor-Greater, ordered_xor-Less}
+use Rattle.expr_table.proofs.Ands.{and_of-zero_left, and_of-zero_right, and_of-one_left, and_of-one_right, and_of-same, and_of-other}
+use Rattle.expr_table.proofs.Ordered.{ordered_and-Greater, ordered_and-Less, ordered_xor-Greater, ordered_xor-Less}
+use Rattle.expr_table.proofs.Xors.{xor_of-same, xor_of-zero_left, xor_of-zero_right, xor_of-other}
 
 same_or_not : (s t : Term) → (s ≡ t) ⊎ (s ≡ t → ⊥)
 same_or_not s t = ⊎_elim (λ e. inl (is_same-exact s t e)) (λ e. inr (λ same. let yes = is_same-equal s t same in cc)) (cases_Bool (is_same s t))
@@ -45,3 +47,34 @@ xor_of-turned a b =
     (same_or_not b Zero))
     (same_or_not a Zero))
     (same_or_not a b)
+
+ordered_and-turned : (a b : Term) → (a ≡ b → ⊥) → ordered_and a b ≡ ordered_and b a
+ordered_and-turned a b other = by (term_cmp a b) refl
+  where
+    by : (o : Ordering) → term_cmp a b ≡ o → ordered_and a b ≡ ordered_and b a
+    by Less e = ordered_and-Less a b e ∙ sym (ordered_and-Greater b a (cmp_antisymm b a ∙ ap ordering_reverse e))
+    by Greater e = ordered_and-Greater a b e ∙ sym (ordered_and-Less b a (cmp_antisymm b a ∙ ap ordering_reverse e))
+    by Equal e = absurd (other (cmp_exact a b e))
+
+and_of-turned_zero : (a b : Term) → a ≡ Zero → and_of a b ≡ and_of b a
+and_of-turned_zero a b left =
+    and_of-zero_left a b left
+    ∙ ⊎_elim (λ right. sym (and_of-zero_left b a right)) (λ right. sym (and_of-zero_right b a right left)) (same_or_not b Zero)
+
+pub and_of-turned : (a b : Term) → and_of a b ≡ and_of b a
+and_of-turned a b =
+    ⊎_elim (and_of-turned_zero a b)
+    (λ left. ⊎_elim (λ right. sym (and_of-turned_zero b a right))
+    (λ right. ⊎_elim
+    (λ one. and_of-one_left a b left right one
+    ∙ ⊎_elim (λ one'. one' ∙ sym one ∙ sym (and_of-one_left b a right left one')) (λ one'. sym (and_of-one_right b a right left one' one)) (same_or_not b One))
+    (λ one. ⊎_elim
+    (λ one'. and_of-one_right a b left right one one' ∙ sym (and_of-one_left b a right left one'))
+    (λ one'. ⊎_elim
+    (λ same. and_of-same a b left right one one' same ∙ same ∙ sym (and_of-same b a right left one' one (sym same)))
+    (λ other. and_of-other a b left right one one' other ∙ ordered_and-turned a b other ∙ sym (and_of-other b a right left one' one (λ e. other (sym e))))
+    (same_or_not a b))
+    (same_or_not b One))
+    (same_or_not a One))
+    (same_or_not b Zero))
+    (same_or_not a Zero)

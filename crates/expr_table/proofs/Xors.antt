@@ -1,16 +1,15 @@
 -- The simplified exclusive or, on rows.
-use Rattle.std.proofs.Common.{◌≡◌, ℕ, ◌<◌, length, Option, None, Some, unwrap_or, Less, Equal, Greater, refl, sym, ap, ◌∙◌, subst, arith, IfSome, ◌⊎◌, ⊎_elim}
+use Rattle.std.proofs.Common.{◌≡◌, ◌<◌, length, Option, None, Some, unwrap_or, refl, sym, ap, ◌∙◌, subst, arith, IfSome}
 use Rattle.std.specs.Option.{option_map}
-use Rattle.std.specs.Ordering.{is_gt}
 use Rattle.std.proofs.lemmas.Bool.{cond-true, cond-false}
 use Rattle.expr_table.specs.declared.node.Node.{Node}
 use Rattle.expr_table.specs.declared.node.Row.{Row}
 use Rattle.expr_table.specs.declared.node.Node.TheVariants as node
-use Rattle.expr_table.specs.Term.{Term, Zero, One, Input, Random, And, Xor, term_cmp, is_same, xor_of, without_one, ordered_xor}
+use Rattle.expr_table.specs.Term.{Term, Zero, One, Input, Random, And, Xor, is_same, xor_of, without_one, ordered_xor}
 use Rattle.expr_table.specs.Table.{Table, IsTable, IsRowOf, node_at, terms, term_at, term_of}
-use Rattle.expr_table.specs.Places.{IsPlaceable}
-use Rattle.expr_table.specs.Simplified.{Simplifies}
-use Rattle.expr_table.proofs.Order.{is_same-equal, is_same-other, cmp_exact, Less-from_Greater}
+use Rattle.expr_table.specs.declared.table.gate.Gate.TheVariants as gate
+use Rattle.expr_table.specs.Gates.{Simplifies}
+use Rattle.expr_table.proofs.Order.{is_same-equal, is_same-other}
 use Rattle.expr_table.proofs.Rows.{row-term, row-below, SidesBelow}
 
 -- the cases of the definition
@@ -71,21 +70,11 @@ without_one-other (Random i) b h = refl
 without_one-other (And c d) b h = refl
 without_one-other (Xor c d) b h = refl
 
--- the sides in order
-pub ordered_xor-Greater : (a b : Term) → term_cmp a b ≡ Greater → ordered_xor a b ≡ Xor b a
-ordered_xor-Greater a b e = cond-true (is_gt (term_cmp a b)) (Xor b a) (Xor a b) (ap is_gt e)
-
-pub ordered_xor-Less : (a b : Term) → term_cmp a b ≡ Less → ordered_xor a b ≡ Xor a b
-ordered_xor-Less a b e = cond-false (is_gt (term_cmp a b)) (Xor b a) (Xor a b) (ap is_gt e)
-
 module _ (t : Table) (table : IsTable t) where
   abbrev at : Row → Term
   at row = term_at (terms t.nodes) row.0
 
-  pub terms_apart : (a b : Row) → a.0 < length t.nodes → b.0 < length t.nodes → (a ≡ b → ⊥) → at a ≡ at b → ⊥
-  terms_apart a b al bl other e = other (ap (λ (n : ℕ). record { 0 = n }) (table.distinct a.0 b.0 al bl e))
-
-  numbers_apart : (a b : Row) → a.0 < length t.nodes → b.0 < length t.nodes → (a.0 ≡ b.0 → ⊥) → at a ≡ at b → ⊥
+  pub numbers_apart : (a b : Row) → a.0 < length t.nodes → b.0 < length t.nodes → (a.0 ≡ b.0 → ⊥) → at a ≡ at b → ⊥
   numbers_apart a b al bl apart e = apart (table.distinct a.0 b.0 al bl e)
 
   -- a row that is not that of a term has another
@@ -111,50 +100,46 @@ module _ (t : Table) (table : IsTable t) where
   no_Xor-at b bl h x y e = not_Xor (node_at t.nodes b.0) x y h (sym (row-term t table b.0 bl) ∙ e)
 
   -- what is known of a row with the number of another
-  row_term : (r other : Row) (s : Term) → r.0 ≡ other.0 → IsRowOf t.nodes other.0 s → at r ≡ s
+  pub row_term : (r other : Row) (s : Term) → r.0 ≡ other.0 → IsRowOf t.nodes other.0 s → at r ≡ s
   row_term r other s e is = ap (term_at (terms t.nodes)) e ∙ is.term
 
-  pub Simplifies-same : (a b zero : Row) → a.0 ≡ b.0 → IsRowOf t.nodes zero.0 Zero → Simplifies t.nodes a b (Some zero)
-  Simplifies-same a b zero e is = record { within = is.within; term = is.term ∙ sym (xor_of-same (at a) (at b) (ap (term_at (terms t.nodes)) e)) }
+  pub Xor-same : (a b zero : Row) → a.0 ≡ b.0 → IsRowOf t.nodes zero.0 Zero → Simplifies gate.Xor t.nodes a b (Some zero)
+  Xor-same a b zero e is = record { within = is.within; term = is.term ∙ sym (xor_of-same (at a) (at b) (ap (term_at (terms t.nodes)) e)) }
 
-  module _ (a b : Row) (zero : Row) where
-    pub Simplifies-zero_left : a.0 < length t.nodes → b.0 < length t.nodes → (a.0 ≡ b.0 → ⊥) → IsRowOf t.nodes zero.0 Zero → a.0 ≡ zero.0 → Simplifies t.nodes a b (Some b)
-    Simplifies-zero_left al bl apart is e = record {
-      within = bl;
-      term = sym (xor_of-zero_left (at a) (at b) (numbers_apart a b al bl apart) (row_term a zero Zero e is));
-    }
+  module _ (a b zero : Row) (al : a.0 < length t.nodes) (bl : b.0 < length t.nodes) (is : IsRowOf t.nodes zero.0 Zero) (apart : a.0 ≡ b.0 → ⊥) where
+    pub Xor-zero_left : a.0 ≡ zero.0 → Simplifies gate.Xor t.nodes a b (Some b)
+    Xor-zero_left e = record { within = bl; term = sym (xor_of-zero_left (at a) (at b) (numbers_apart a b al bl apart) (row_term a zero Zero e is)) }
 
-    module _ (zero' : Row) (al : a.0 < length t.nodes) (bl : b.0 < length t.nodes) (apart : a.0 ≡ b.0 → ⊥)
-        (is : IsRowOf t.nodes zero.0 Zero) (a_other : a.0 ≡ zero.0 → ⊥) (is' : IsRowOf t.nodes zero'.0 Zero) where
-      pub Simplifies-zero_right : b.0 ≡ zero'.0 → Simplifies t.nodes a b (Some a)
-      Simplifies-zero_right e = record {
+    module _ (a_other : a.0 ≡ zero.0 → ⊥) where
+      pub Xor-zero_right : b.0 ≡ zero.0 → Simplifies gate.Xor t.nodes a b (Some a)
+      Xor-zero_right e = record {
         within = al;
-        term = sym (xor_of-zero_right (at a) (at b) (numbers_apart a b al bl apart) (not_term a zero Zero al is a_other) (row_term b zero' Zero e is'));
+        term = sym (xor_of-zero_right (at a) (at b) (numbers_apart a b al bl apart) (not_term a zero Zero al is a_other) (row_term b zero Zero e is));
       }
 
-      module _ (b_other : b.0 ≡ zero'.0 → ⊥) where
+      module _ (b_other : b.0 ≡ zero.0 → ⊥) where
         other : xor_of (at a) (at b) ≡ unwrap_or (without_one (at a) (at b)) (unwrap_or (without_one (at b) (at a)) (ordered_xor (at a) (at b)))
-        other = xor_of-other (at a) (at b) (numbers_apart a b al bl apart) (not_term a zero Zero al is a_other) (not_term b zero' Zero bl is' b_other)
+        other = xor_of-other (at a) (at b) (numbers_apart a b al bl apart) (not_term a zero Zero al is a_other) (not_term b zero Zero bl is b_other)
 
         -- from what the looks for One found
-        pub Simplifies-one : (c : Row) → c.0 < length t.nodes → without_one (at a) (at b) ≡ Some (at c) → Simplifies t.nodes a b (Some c)
-        Simplifies-one c cl e = record { within = cl; term = sym (other ∙ ap (λ o. unwrap_or o (unwrap_or (without_one (at b) (at a)) (ordered_xor (at a) (at b)))) e) }
+        pub Xor-one : (c : Row) → c.0 < length t.nodes → without_one (at a) (at b) ≡ Some (at c) → Simplifies gate.Xor t.nodes a b (Some c)
+        Xor-one c cl e = record { within = cl; term = sym (other ∙ ap (λ o. unwrap_or o (unwrap_or (without_one (at b) (at a)) (ordered_xor (at a) (at b)))) e) }
 
-        pub Simplifies-last : without_one (at a) (at b) ≡ None → (r : Option Row) → IfSome r (λ (c : Row). c.0 < length t.nodes)
-            → option_map (λ (c : Row). term_at (terms t.nodes) c.0) r ≡ without_one (at b) (at a) → Simplifies t.nodes a b r
-        Simplifies-last none (Some c) cl e = record {
+        pub Xor-last : without_one (at a) (at b) ≡ None → (r : Option Row) → IfSome r (λ (c : Row). c.0 < length t.nodes)
+            → option_map (λ (c : Row). term_at (terms t.nodes) c.0) r ≡ without_one (at b) (at a) → Simplifies gate.Xor t.nodes a b r
+        Xor-last none (Some c) cl e = record {
           within = cl;
           term = sym (other ∙ ap (λ o. unwrap_or o (unwrap_or (without_one (at b) (at a)) (ordered_xor (at a) (at b)))) none ∙ ap (λ o. unwrap_or o (ordered_xor (at a) (at b))) (sym e));
         }
-        Simplifies-last none None cl e = (
+        Xor-last none None cl e = (
           λ same. apart (ap (λ (r : Row). r.0) same),
           other ∙ ap (λ o. unwrap_or o (unwrap_or (without_one (at b) (at a)) (ordered_xor (at a) (at b)))) none ∙ ap (λ o. unwrap_or o (ordered_xor (at a) (at b))) (sym e),
         )
 
-  pub without_one-found : (a b one side c one' : Row) → b.0 < length t.nodes → IsRowOf t.nodes one.0 One → IsRowOf t.nodes one'.0 One → a.0 ≡ one.0 → side.0 ≡ one'.0
-      → node_at t.nodes b.0 ≡ node.Xor side c → Some (at c) ≡ without_one (at a) (at b)
-  without_one-found a b one side c one' bl is is' first second e =
-      sym (without_one-one (at a) (at b) (at c) (row_term a one One first is) (Xor-at b side c bl e ∙ ap (λ s. Xor s (at c)) (row_term side one' One second is')))
+  pub without_one-found : (a b one side c : Row) → b.0 < length t.nodes → IsRowOf t.nodes one.0 One → a.0 ≡ one.0 → side.0 ≡ one.0 → node_at t.nodes b.0 ≡ node.Xor side c
+      → Some (at c) ≡ without_one (at a) (at b)
+  without_one-found a b one side c bl is first second e =
+      sym (without_one-one (at a) (at b) (at c) (row_term a one One first is) (Xor-at b side c bl e ∙ ap (λ s. Xor s (at c)) (row_term side one One second is)))
 
   pub without_one-no_side : (a b side c one : Row) → b.0 < length t.nodes → IsRowOf t.nodes one.0 One → (side.0 ≡ one.0 → ⊥) → node_at t.nodes b.0 ≡ node.Xor side c → None ≡ without_one (at a) (at b)
   without_one-no_side a b side c one bl is other e =
@@ -166,11 +151,3 @@ module _ (t : Table) (table : IsTable t) where
 
   pub without_one-no_one : (a b one : Row) → a.0 < length t.nodes → IsRowOf t.nodes one.0 One → (a.0 ≡ one.0 → ⊥) → None ≡ without_one (at a) (at b)
   without_one-no_one a b one al is other = sym (without_one-first (at a) (at b) (not_term a one One al is other))
-
-  -- the node of the Xor with the lesser term first
-  pub placeable-Greater : (a b : Row) → a.0 < length t.nodes → b.0 < length t.nodes → term_cmp (at a) (at b) ≡ Greater → IsPlaceable t.nodes (node.Xor b a)
-  placeable-Greater a b al bl e = (bl, al, Less-from_Greater (at a) (at b) e)
-
-  -- the terms of two rows do not compare equal
-  pub placeable-Less : (a b : Row) → a.0 < length t.nodes → b.0 < length t.nodes → (a ≡ b → ⊥) → (term_cmp (at a) (at b) ≡ Less) ⊎ (term_cmp (at a) (at b) ≡ Equal) → term_cmp (at a) (at b) ≡ Less
-  placeable-Less a b al bl other e = ⊎_elim (λ less. less) (λ equal. absurd (terms_apart a b al bl other (cmp_exact (at a) (at b) equal))) e

@@ -1,6 +1,7 @@
 pub mod Term
 pub mod Table
-pub mod Places
+pub mod Interning
 pub mod Steps
-pub mod Simplified
+pub mod Gates
+pub mod Values
 pub mod Instance

@@ -12,9 +12,12 @@ use Rattle.expr_table.specs.Table.{terms, term_at}
 -- the order is known, or it is that of two earlier rows
 abbrev pub Compares : List Node → ℕ → ℕ → Step → Type 0
 Compares nodes a b (Known order) = order ≡ term_cmp (term_at (terms nodes) a) (term_at (terms nodes) b)
-Compares nodes a b (Deeper p q) = (p.0 < a) × (q.0 < b) × (term_cmp (term_at (terms nodes) p.0) (term_at (terms nodes) q.0) ≡ term_cmp (term_at (terms nodes) a) (term_at (terms nodes) b))
+Compares nodes a b (Deeper p q) =
+    (p.0 < a) × (q.0 < b)
+    × (term_cmp (term_at (terms nodes) p.0) (term_at (terms nodes) q.0)
+    ≡ term_cmp (term_at (terms nodes) a) (term_at (terms nodes) b))
 
--- the place of a node's kind in the structural order
+-- how a node's kind ranks in the structural order
 abbrev pub node_kind : Node → ℕ
 node_kind Zero = 0
 node_kind One = 1

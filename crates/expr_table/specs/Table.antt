@@ -4,7 +4,11 @@ use Rattle.std.specs.declared.cmp.Ordering.TheVariants.{Less}
 use Rattle.expr_table.specs.declared.node.Node.{Node}
 use Rattle.expr_table.specs.declared.node.Row.{Row}
 use Rattle.expr_table.specs.declared.node.Node.TheVariants as node
-use Rattle.expr_table.specs.Term.{Term, Zero, One, Input, Random, And, Xor, is_same, term_cmp, xor_of}
+use Rattle.expr_table.specs.Term.{Term, Zero, One, Input, Random, And, Xor, is_same, term_cmp, xor_of, and_of}
+
+-- the most rows that a table has
+abbrev pub most_rows : ℕ
+most_rows = 524288
 
 -- what contracts see of a table: how many input leaves and random leaves it has, and its nodes, row by row
 pub record Table : Type 0 where
@@ -63,9 +67,25 @@ pub record IsRowOf (nodes : List Node) (row : ℕ) (t : Term) : Type 0 where
   pub within : row < length nodes
   pub term : term_at (terms nodes) row ≡ t
 
+-- the term of the first row is less than that of the second
+abbrev pub IsBelow : List Node → Row → Row → Type 0
+IsBelow nodes a b = term_cmp (term_at (terms nodes) a.0) (term_at (terms nodes) b.0) ≡ Less
+
 -- the simplified exclusive or of the terms of two rows
 abbrev pub xor_at : List Node → Row → Row → Term
 xor_at nodes a b = xor_of (term_at (terms nodes) a.0) (term_at (terms nodes) b.0)
+
+-- the simplified conjunction of the terms of two rows
+abbrev pub and_at : List Node → Row → Row → Term
+and_at nodes a b = and_of (term_at (terms nodes) a.0) (term_at (terms nodes) b.0)
+
+-- no row has the term
+abbrev pub IsNew : Table → Term → Type 0
+IsNew t s = has_term (terms t.nodes) s ≡ false
+
+-- there is room for no more rows
+abbrev pub IsFull : Table → Type 0
+IsFull t = length t.nodes ≡ most_rows
 
 -- leaves of one kind, numbered from a first number on
 abbrev pub numbered_leaves : (ℕ → Node) → ℕ → ℕ → List Node
@@ -74,7 +94,8 @@ numbered_leaves leaf first (suc n) = leaf first ∷ numbered_leaves leaf (first 
 
 -- the rows of a new table: Zero, One, the input leaves, the random leaves
 abbrev pub leaves : ℕ → ℕ → List Node
-leaves inputs randoms = node.Zero ∷ node.One ∷ numbered_leaves node.Input 0 inputs ++ numbered_leaves node.Random 0 randoms
+leaves inputs randoms =
+    node.Zero ∷ node.One ∷ numbered_leaves node.Input 0 inputs ++ numbered_leaves node.Random 0 randoms
 
 abbrev pub new_table : ℕ → ℕ → Table
 new_table inputs randoms = record { inputs = inputs; randoms = randoms; nodes = leaves inputs randoms }
@@ -97,18 +118,19 @@ pub record IsTable (t : Table) : Type 0 where
   pub random_once : (row i : ℕ) → node_at t.nodes row ≡ node.Random i → (i < t.randoms) × (row ≡ 2 + t.inputs + i)
   -- sides are earlier rows, the lesser term first
   pub earlier : (row side : ℕ) → IsTrue (has (sides (node_at t.nodes row)) side) → side < row
-  pub and_ordered : (row : ℕ) (a b : Row) → node_at t.nodes row ≡ node.And a b → term_cmp (term_at (terms t.nodes) a.0) (term_at (terms t.nodes) b.0) ≡ Less
-  pub xor_ordered : (row : ℕ) (a b : Row) → node_at t.nodes row ≡ node.Xor a b → term_cmp (term_at (terms t.nodes) a.0) (term_at (terms t.nodes) b.0) ≡ Less
+  pub and_ordered : (row : ℕ) (a b : Row) → node_at t.nodes row ≡ node.And a b → IsBelow t.nodes a b
+  pub xor_ordered : (row : ℕ) (a b : Row) → node_at t.nodes row ≡ node.Xor a b → IsBelow t.nodes a b
   -- no term has two rows
-  pub distinct : (row other : ℕ) → row < length t.nodes → other < length t.nodes → term_at (terms t.nodes) row ≡ term_at (terms t.nodes) other → row ≡ other
-  pub few : length t.nodes ≤ 524288
+  pub distinct : (row other : ℕ) → row < length t.nodes → other < length t.nodes
+      → term_at (terms t.nodes) row ≡ term_at (terms t.nodes) other → row ≡ other
+  pub few : length t.nodes ≤ most_rows
 
--- the first place of a term in a list
+-- where a term first stands in a list
 abbrev pub place_of : List Term → Term → ℕ
 place_of [] t = 0
 place_of (s ∷ ss) t = if is_same s t then 0 else place_of ss t + 1
 
--- the node that has a term, with its sides at their places in the list
+-- the node that has a term, with its sides where they stand in the list
 abbrev pub node_of : List Term → Term → Node
 node_of ts Zero = node.Zero
 node_of ts One = node.One

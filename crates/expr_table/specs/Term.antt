@@ -11,7 +11,7 @@ pub data Term : Type 0 where
   And : (a b : Term) → Term
   Xor : (a b : Term) → Term
 
--- the place of a term's kind in the structural order
+-- how a term's kind ranks in the structural order
 abbrev pub kind : Term → ℕ
 kind Zero = 0
 kind One = 1

@@ -1,3 +1,5 @@
+//! What the engines decide on.
+
 use crate::node::Row;
 use crate::table::ExprTable;
 use sequences::Sequence;

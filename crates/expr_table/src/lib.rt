@@ -6,12 +6,20 @@
 //! each probe sees, and the groups of the input leaves.
 #![tactic(auto)]
 
+use std::alloc::AllocError;
+
 mod instance;
 mod laws;
 mod node;
 mod table;
 
 pub use instance::{Instance, Notion, ProbeRoots};
-pub use laws::{exclusive_or, one_row_each, structural_order, terms_give_nodes};
+pub use laws::{
+    conjunction, exclusive_or, gates_keep_values, limits, one_row_each, structural_order,
+    terms_give_nodes,
+};
 pub use node::{Node, Row};
-pub use table::{ExprTable, TermStop};
+pub use table::{ExprTable, MOST_ROWS, TermStop};
+
+/// Memory was refused.
+pub type NoMemory = AllocError;

@@ -1,3 +1,5 @@
+//! Rows and what stands in them.
+
 /// The number of a row of the table.
 #[derive(Clone, Copy, Debug, PartialEq, Eq, Hash)]
 pub struct Row(pub u32);

@@ -1,41 +1,43 @@
+//! The table of terms, and how its rows are read.
 ghost use Rattle.std.specs.Prelude.{◌≡◌, ◌+◌, ◌<◌, length, slice_get, Some};
 ghost use Rattle.expr_table.specs.Table.{Table, IsTable, IsRowOf};
 ghost use Rattle.expr_table.specs.Term as term;
 
 mod compare;
+mod gate;
+mod intern;
 mod make;
-mod place;
+mod simplify;
 #[cfg(test)]
 mod tests;
-mod xor;
 
+use crate::NoMemory;
 use crate::node::{Node, Row};
 use indexmap::IndexMap;
-use std::alloc::AllocError;
 use std::marker::Model;
 use thiserror::Error;
 
 /// The most rows that a table has.
-pub const MAX_ROWS: usize = 524_288;
+pub const MOST_ROWS: usize = 524_288;
 
 /// Why a row was not made.
 #[derive(Debug, Drop, Error)]
 pub enum TermStop {
-    /// The row would be past the 524,288th.
+    /// The table has [`MOST_ROWS`] rows, and one more is needed.
     #[error("too many terms")]
     TooManyTerms,
     /// Memory was refused.
-    #[error("no memory")]
+    #[error("memory was refused")]
     NoMemory,
 }
 
-impl From<AllocError> for TermStop {
+impl From<NoMemory> for TermStop {
     ghost use Rattle.std.specs.Prelude.{◌≡◌};
     ghost use Rattle.expr_table.specs.declared.table.TermStop.TheVariants.{NoMemory};
 
     ghost from_gives = { λ _ stop. stop ≡ NoMemory };
 
-    fn from(_: AllocError) -> TermStop {
+    fn from(_: NoMemory) -> TermStop {
         TermStop::NoMemory
     }
 }
@@ -46,19 +48,20 @@ impl From<AllocError> for TermStop {
 pub struct ExprTable {
     inputs: u32,
     randoms: u32,
-    places: IndexMap<Node, u32>,
+    rows: IndexMap<Node, u32>,
 }
 
 impl Model for ExprTable {
     ghost use Rattle.indexmap.specs.IndexMap.{keys};
     ghost use Rattle.expr_table.specs.Table.{Table, IsTable};
-    ghost use Rattle.expr_table.specs.Places.{IsNumbered};
+    ghost use Rattle.expr_table.specs.Interning.{IsNumbered};
 
     ghost Value = { Table };
 
-    ghost view = { λ t. record { inputs = t.inputs; randoms = t.randoms; nodes = keys t.places } };
+    ghost view = { λ t. record { inputs = t.inputs; randoms = t.randoms; nodes = keys t.rows } };
 
-    ghost invariant = { λ t. IsNumbered t.places.entries × IsTable (record { inputs = t.inputs; randoms = t.randoms; nodes = keys t.places }) };
+    ghost invariant = { λ t. IsNumbered t.rows.entries
+        × IsTable (record { inputs = t.inputs; randoms = t.randoms; nodes = keys t.rows }) };
 }
 
 impl ExprTable {
@@ -67,7 +70,7 @@ impl ExprTable {
         ensures rows { result ≡ length self.now.nodes }
         ensures table { IsTable self.now }
     {
-        self.places.len() as u32
+        self.rows.len() as u32
     }
 
     /// The node of a row.
@@ -75,7 +78,7 @@ impl ExprTable {
         requires { row.0 < length self.now.nodes }
         ensures { slice_get self.now.nodes row.0 ≡ Some result }
     {
-        match self.places.get_index(row.0 as usize) {
+        match self.rows.get_index(row.0 as usize) {
             Some((node, _)) => *node,
             None => unreachable!(),
         }
@@ -86,7 +89,7 @@ impl ExprTable {
         ensures number { result.0 ≡ 0 }
         ensures row { IsRowOf self.now.nodes result.0 term.Zero }
     {
-        let _ = &self.places;
+        let _ = &self.rows;
         Row(0)
     }
 
@@ -95,7 +98,7 @@ impl ExprTable {
         ensures number { result.0 ≡ 1 }
         ensures row { IsRowOf self.now.nodes result.0 term.One }
     {
-        let _ = &self.places;
+        let _ = &self.rows;
         Row(1)
     }
 
@@ -105,7 +108,7 @@ impl ExprTable {
         ensures number { result.0 ≡ 2 + i }
         ensures row { IsRowOf self.now.nodes result.0 (term.Input i) }
     {
-        let _ = &self.places;
+        let _ = &self.rows;
         Row(2 + i)
     }
 

@@ -14,7 +14,8 @@ use Rattle.narrow_netlist.specs.declared.netlist.InputWire.{InputWire}
 use Rattle.narrow_netlist.specs.declared.netlist.XorCell.{XorCell}
 use Rattle.narrow_netlist.specs.Wiring.{input_names, driven, AreInOrder}
 use Rattle.maskverif_cli.specs.Standing.{Signal, term_named, cell_signal, with_cells}
-use Rattle.maskverif_cli.specs.Values.{xor, eval, secret_bits, random_bits, HasValue}
+use Rattle.expr_table.specs.Values.{xor, eval}
+use Rattle.maskverif_cli.specs.Values.{secret_bits, random_bits, HasValue}
 
 -- a bit with itself, with false on the right, and with the sides changed
 xor-self : (x : Bool) → xor x x ≡ false

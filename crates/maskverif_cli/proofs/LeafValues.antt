@@ -15,7 +15,8 @@ use Rattle.narrow_netlist.specs.declared.netlist.ShareNote.{ShareNote}
 use Rattle.narrow_netlist.specs.declared.netlist.Note.{Note}
 use Rattle.narrow_netlist.specs.declared.netlist.Note.TheVariants.{Random, Share}
 use Rattle.maskverif_cli.specs.Standing.{secrets, secrets_after, with_name, with_secret, is_random_note, is_random_leaf, is_zero_share_of, random_number, secret_term, zero_share_term}
-use Rattle.maskverif_cli.specs.Values.{bit, eval, secret_bit, secret_bits, random_bits}
+use Rattle.expr_table.specs.Values.{bit, eval}
+use Rattle.maskverif_cli.specs.Values.{secret_bit, secret_bits, random_bits}
 
 -- one element in front, passed or not, moves the count as it moves the list
 bit-step : {X : Type 0} (f : X → Bool) (y : X) (passed : List X) (b : Bool) (n : ℕ) → bit (map f (cond b (y ∷ passed) passed)) (cond b 1 0 + n) ≡ bit (map f passed) n

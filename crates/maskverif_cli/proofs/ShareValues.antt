@@ -13,7 +13,8 @@ use Rattle.narrow_netlist.specs.declared.netlist.ShareIndex.{ShareIndex}
 use Rattle.narrow_netlist.specs.declared.netlist.ShareIndex.TheVariants.{Zero, One}
 use Rattle.narrow_netlist.specs.Wiring.{AreDistinct, HasBothShares, is_index, input_shares, secrets, share_of}
 use Rattle.maskverif_cli.specs.Standing.{is_zero_share_of}
-use Rattle.maskverif_cli.specs.Values.{xor, is_share_of, values_of, secret_bit}
+use Rattle.expr_table.specs.Values.{xor}
+use Rattle.maskverif_cli.specs.Values.{is_share_of, values_of, secret_bit}
 
 -- the note is that of this share of this secret
 abbrev is_at : ShareIndex → List ℕ → Note → Bool

@@ -11,7 +11,8 @@ use Rattle.narrow_netlist.specs.declared.netlist.Note.{Note}
 use Rattle.narrow_netlist.specs.declared.netlist.Note.TheVariants.{Random, Share}
 use Rattle.narrow_netlist.specs.Wiring.{HasBothShares, input_shares, input_names, is_index}
 use Rattle.maskverif_cli.specs.Standing.{Signal, secrets, input_signals_from, input_term, is_random_note, is_zero_share_of, one_share_term, random_number, secret_term, zero_share_term}
-use Rattle.maskverif_cli.specs.Values.{xor, eval, secret_bits, random_bits, HasValue, TermsGiveValues}
+use Rattle.expr_table.specs.Values.{xor, eval}
+use Rattle.maskverif_cli.specs.Values.{secret_bits, random_bits, HasValue, TermsGiveValues}
 use Rattle.maskverif_cli.proofs.GateValues.{eval-xor_of, cells-have-values}
 use Rattle.maskverif_cli.proofs.LeafValues.{random-bit, zero-share-bit, secret-bit, get_or-itself}
 use Rattle.maskverif_cli.proofs.ShareValues.{zero-share-there, shares-join}

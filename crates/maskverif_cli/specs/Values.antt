@@ -1,7 +1,7 @@
 -- What the terms mean: where wires have values that the gates follow, each signal's term has its wire's value.
-use Rattle.std.specs.Prelude.{ℕ, ◌≡◌, Bool, true, false, not, ◌&&◌, List, map, filter, fold, slice_index_or, All}
+use Rattle.std.specs.Prelude.{ℕ, ◌≡◌, Bool, false, List, map, filter, fold, All}
 use Rattle.std.specs.Str.{bytes_eq}
-use Rattle.expr_table.specs.Term.{Term, Zero, One, Input, Random, And, Xor}
+use Rattle.expr_table.specs.Values.{xor, eval}
 use Rattle.narrow_netlist.specs.declared.netlist.Netlist.{Netlist}
 use Rattle.narrow_netlist.specs.declared.netlist.InputWire.{InputWire}
 use Rattle.narrow_netlist.specs.declared.netlist.XorCell.{XorCell}
@@ -9,22 +9,6 @@ use Rattle.narrow_netlist.specs.declared.netlist.Note.{Note}
 use Rattle.narrow_netlist.specs.declared.netlist.Note.TheVariants as note
 use Rattle.narrow_netlist.specs.Narrow.{IsNarrow}
 use Rattle.maskverif_cli.specs.Standing.{Signal, signals, secrets, is_random_leaf}
-
-abbrev pub xor : Bool → Bool → Bool
-xor true b = not b
-xor false b = b
-
-abbrev pub bit : List Bool → ℕ → Bool
-bit bits i = slice_index_or bits i false
-
--- the value of a term, where the input leaves and the random leaves have these bits
-abbrev pub eval : List Bool → List Bool → Term → Bool
-eval inputs randoms Zero = false
-eval inputs randoms One = true
-eval inputs randoms (Input i) = bit inputs i
-eval inputs randoms (Random i) = bit randoms i
-eval inputs randoms (And a b) = eval inputs randoms a && eval inputs randoms b
-eval inputs randoms (Xor a b) = xor (eval inputs randoms a) (eval inputs randoms b)
 
 -- each wire has the value that its name is given, and each gate drives its wire with the exclusive or of its sides
 abbrev pub Follows : Netlist → (List ℕ → Bool) → Type 0

@@ -42,7 +42,7 @@ impl ExprTable {
         requires differ { a ≢ b }
         ensures { Compares self.now.nodes a.0 b.0 result }
     {
-        let _ = &self.places;
+        let _ = &self.rows;
         step_of(self.node(a), self.node(b))
     }
 }
@@ -88,7 +88,7 @@ fn differing(p: Row, q: Row, r: Row, s: Row) -> Step
     }
 }
 
-/// The place of a node's kind in the structural order.
+/// How a node's kind ranks in the structural order.
 fn kind(node: Node) -> u8
     ensures { result ≡ node_kind node }
 {

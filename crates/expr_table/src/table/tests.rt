@@ -1,3 +1,6 @@
+//! Tables at their edges: equal terms, the limit, the order.
+
+use super::gate::Gate;
 use super::{ExprTable, TermStop};
 use crate::node::{Node, Row};
 use std::alloc::Global;
@@ -9,15 +12,24 @@ fn table_of(alloc: Global, inputs: u32, randoms: u32) -> Result<ExprTable, TermS
     ExprTable::make(alloc, inputs, randoms)
 }
 
-/// The row of an exclusive or; `NoMemory` for a row that is not there too.
-fn xor(table: &mut ExprTable, a: u32, b: u32) -> Result<u32, TermStop> {
+/// The row of a gate; `NoMemory` for a row that is not there too.
+fn row_of(table: &mut ExprTable, gate: Gate, a: u32, b: u32) -> Result<u32, TermStop> {
     if a >= table.rows() {
         return Err(TermStop::NoMemory);
     }
     if b >= table.rows() {
         return Err(TermStop::NoMemory);
     }
-    Ok(table.xor(Row(a), Row(b))?.0)
+    let row = match gate {
+        Gate::And => table.and(Row(a), Row(b))?,
+        Gate::Xor => table.xor(Row(a), Row(b))?,
+    };
+    Ok(row.0)
+}
+
+/// The row of an exclusive or.
+fn xor(table: &mut ExprTable, a: u32, b: u32) -> Result<u32, TermStop> {
+    row_of(table, Gate::Xor, a, b)
 }
 
 /// The order of two rows' terms, where they are there.
@@ -83,21 +95,29 @@ fn constants_then_inputs_then_randoms(rt: HostRuntime) -> Result<(), Fail> {
 fn equal_terms_have_one_row(rt: HostRuntime) -> Result<(), Fail> {
     let mut table = table_of(rt.alloc(), 1, 1)?;
     let want = [
-        (2, 3, 4),
-        (2, 3, 4),
-        (3, 2, 4),
-        (2, 2, 0),
-        (0, 3, 3),
-        (3, 0, 3),
-        (1, 2, 5),
-        (1, 5, 2),
-        (5, 1, 2),
+        (Gate::Xor, 2, 3, 4),
+        (Gate::Xor, 2, 3, 4),
+        (Gate::Xor, 3, 2, 4),
+        (Gate::And, 2, 2, 2),
+        (Gate::Xor, 1, 2, 5),
+        (Gate::Xor, 1, 5, 2),
+        (Gate::Xor, 5, 1, 2),
+        (Gate::Xor, 2, 2, 0),
+        (Gate::Xor, 0, 3, 3),
+        (Gate::Xor, 3, 0, 3),
+        (Gate::And, 3, 2, 6),
+        (Gate::And, 2, 3, 6),
+        (Gate::And, 0, 3, 0),
+        (Gate::And, 3, 0, 0),
+        (Gate::And, 1, 3, 3),
+        (Gate::And, 3, 1, 3),
     ];
-    for (a, b, row) in want {
-        assert_eq!(rt; xor(&mut table, a, b)?, row, "of {a} and {b}");
+    for (gate, a, b, row) in want {
+        assert_eq!(rt; row_of(&mut table, gate, a, b)?, row, "of {a} and {b}");
     }
     assert_eq!(rt; node(&table, 4), Some(Node::Xor(Row(2), Row(3))));
-    assert_eq!(rt; table.rows(), 6);
+    assert_eq!(rt; node(&table, 6), Some(Node::And(Row(2), Row(3))));
+    assert_eq!(rt; table.rows(), 7);
     Ok(())
 }
 
@@ -105,6 +125,7 @@ fn equal_terms_have_one_row(rt: HostRuntime) -> Result<(), Fail> {
 fn a_full_table_stays(rt: HostRuntime) -> Result<(), Fail> {
     let mut table = table_of(rt.alloc(), 262_143, 262_143)?;
     assert!(rt; is_full(xor(&mut table, 2, 3)));
+    assert!(rt; is_full(row_of(&mut table, Gate::And, 2, 3)));
     assert_eq!(rt; table.rows(), 524_288);
     assert_eq!(rt; xor(&mut table, 5, 5)?, 0);
     Ok(())

@@ -6,14 +6,14 @@ use Rattle.expr_table.proofs.table.ExprTable.make.Goals as goal
 
 pub invariant_of-result : goal.invariant_of-result
 invariant_of-result c =
-    let keys = keys-numbered c.add_randoms.new.places.entries (leaves c.args.inputs c.args.randoms) c.in_ok-add_randoms.ensures in (
-      IsNumbered-numbered c.add_randoms.new.places.entries (leaves c.args.inputs c.args.randoms) c.in_ok-add_randoms.ensures,
+    let keys = keys-numbered c.add_randoms.new.rows.entries (leaves c.args.inputs c.args.randoms) c.in_ok-add_randoms.ensures in (
+      IsNumbered-numbered c.add_randoms.new.rows.entries (leaves c.args.inputs c.args.randoms) c.in_ok-add_randoms.ensures,
       subst (λ ns. IsTable (record { inputs = c.args.inputs; randoms = c.args.randoms; nodes = ns })) (sym keys) (IsTable-new c.args.inputs c.args.randoms (omega arith)),
     )
 
 pub returns-clause-made : goal.returns-clause-made
 returns-clause-made c =
-    let keys = keys-numbered c.add_randoms.new.places.entries (leaves c.args.inputs c.args.randoms) c.in_ok-add_randoms.ensures in
+    let keys = keys-numbered c.add_randoms.new.rows.entries (leaves c.args.inputs c.args.randoms) c.in_ok-add_randoms.ensures in
     λ i. record { inputs = c.args.inputs; randoms = c.args.randoms; nodes = keys i }
 
 pub returns-clause-table : goal.returns-clause-table

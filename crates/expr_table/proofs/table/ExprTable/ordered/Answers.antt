@@ -1,17 +1,26 @@
-use Rattle.std.proofs.Common.{sym, ◌∙◌, subst, inl, inr, ⊎_elim}
-use Rattle.expr_table.specs.Table.{IsTable, terms, term_at}
-use Rattle.expr_table.proofs.Xors.{placeable-Greater, placeable-Less, ordered_xor-Less}
+use Rattle.std.proofs.Common.{sym, ap, ◌∙◌, subst, inl, inr, ⊎_elim}
+use Rattle.expr_table.specs.declared.node.Node.{Node}
+use Rattle.expr_table.specs.Table.{IsTable, terms, term_of}
+use Rattle.expr_table.specs.Interning.{IsOrderedGate}
+use Rattle.expr_table.proofs.Ordered.{in_order, turned, IsOrderedGate-gate, term-in_order, term-turned}
 use Rattle.expr_table.proofs.table.ExprTable.ordered.Goals as goal
 
-pub returns-in-Greater-clause-placeable : goal.returns-in-Greater-clause-placeable
-returns-in-Greater-clause-placeable c =
-    placeable-Greater c.args.self.now (subst IsTable c.self.view_is c.self.invariant.1) c.args.a c.args.b c.requires.a_in c.requires.b_in (sym c.compare.ensures ∙ c.in-Greater.is)
+pub returns-in-Greater : goal.returns-in-Greater
+returns-in-Greater c =
+    let table = subst IsTable c.self.view_is c.self.invariant.1 in
+    let greater = sym c.compare.ensures ∙ c.in-Greater.is in
+    record {
+      gate = subst (IsOrderedGate c.args.self.now.nodes) (sym c.gate_node.ensures)
+          (IsOrderedGate-gate c.args.self.now table c.args.gate c.args.b c.args.a (turned c.args.self.now table c.args.a c.args.b c.requires.a_in c.requires.b_in greater));
+      term = ap (λ (n : Node). term_of (terms c.args.self.now.nodes) n) c.gate_node.ensures ∙ term-turned c.args.self.now table c.args.gate c.args.a c.args.b greater;
+    }
 
 pub returns-in-Less : goal.returns-in-Less
 returns-in-Less c =
-    let less = placeable-Less c.args.self.now (subst IsTable c.self.view_is c.self.invariant.1) c.args.a c.args.b c.requires.a_in c.requires.b_in c.requires.differ
+    let table = subst IsTable c.self.view_is c.self.invariant.1 in
+    let are = in_order c.args.self.now table c.args.a c.args.b c.requires.a_in c.requires.b_in c.requires.differ
     (⊎_elim (λ e. inl (sym c.compare.ensures ∙ e)) (λ e. inr (sym c.compare.ensures ∙ e)) c.in-Less.is) in
     record {
-      placeable = (c.requires.a_in, c.requires.b_in, less);
-      term = sym (ordered_xor-Less (term_at (terms c.args.self.now.nodes) c.args.a.0) (term_at (terms c.args.self.now.nodes) c.args.b.0) less);
+      gate = subst (IsOrderedGate c.args.self.now.nodes) (sym c.gate_node-in-Less.ensures) (IsOrderedGate-gate c.args.self.now table c.args.gate c.args.a c.args.b are);
+      term = ap (λ (n : Node). term_of (terms c.args.self.now.nodes) n) c.gate_node-in-Less.ensures ∙ term-in_order c.args.self.now table c.args.gate c.args.a c.args.b are;
     }

@@ -9,7 +9,7 @@ use Rattle.expr_table.proofs.table.ExprTable.without_one.Goals as goal
 pub returns-then-ne-clause-term : goal.returns-then-ne-clause-term
 returns-then-ne-clause-term c =
     let table : IsTable c.args.self.now = subst IsTable c.self.view_is c.self.invariant.1 in
-    without_one-no_one c.args.self.now table c.args.a c.args.b c.one.result c.requires.a_in c.one.ensures.row (eqb-false _ _ (not-true _ (sym c.if-ne.ensures)))
+    without_one-no_one c.args.self.now table c.args.a c.args.b c.one-one.result c.requires.a_in c.one-one.ensures.row (eqb-false _ _ (not-true _ (sym c.if-ne.ensures)))
 
 pub returns-then-eq-clause-within : goal.returns-then-eq-clause-within
 returns-then-eq-clause-within c =
@@ -21,14 +21,14 @@ pub returns-then-eq-clause-term : goal.returns-then-eq-clause-term
 returns-then-eq-clause-term c =
     let table : IsTable c.args.self.now = subst IsTable c.self.view_is c.self.invariant.1 in
     let at : node_at c.args.self.now.nodes c.args.b.0 ≡ node.Xor c.in-Xor.side c.in-Xor.c = get_or_from_slice_get c.args.self.now.nodes c.args.b.0 (node.Xor c.in-Xor.side c.in-Xor.c) node.Zero c.in-Xor.ensures in
-    without_one-found c.args.self.now table c.args.a c.args.b c.one.result c.in-Xor.side c.in-Xor.c c.one-in-Xor.result c.requires.b_in c.one.ensures.row c.one-in-Xor.ensures.row
+    without_one-found c.args.self.now table c.args.a c.args.b c.one-one.result c.in-Xor.side c.in-Xor.c c.requires.b_in c.one-one.ensures.row
     (eqb-true _ _ (not-false _ (sym c.if-ne.ensures))) (eqb-true _ _ (sym c.if-eq.ensures)) at
 
 pub returns-else-eq-clause-term : goal.returns-else-eq-clause-term
 returns-else-eq-clause-term c =
     let table : IsTable c.args.self.now = subst IsTable c.self.view_is c.self.invariant.1 in
     let at : node_at c.args.self.now.nodes c.args.b.0 ≡ node.Xor c.in-Xor.side c.in-Xor.c = get_or_from_slice_get c.args.self.now.nodes c.args.b.0 (node.Xor c.in-Xor.side c.in-Xor.c) node.Zero c.in-Xor.ensures in
-    without_one-no_side c.args.self.now table c.args.a c.args.b c.in-Xor.side c.in-Xor.c c.one-in-Xor.result c.requires.b_in c.one-in-Xor.ensures.row (eqb-false _ _ (sym c.if-eq.ensures)) at
+    without_one-no_side c.args.self.now table c.args.a c.args.b c.in-Xor.side c.in-Xor.c c.one-one.result c.requires.b_in c.one-one.ensures.row (eqb-false _ _ (sym c.if-eq.ensures)) at
 
 pub returns-in_default : goal.returns-in_default
 returns-in_default c =

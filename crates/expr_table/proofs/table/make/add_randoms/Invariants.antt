@@ -1,7 +1,7 @@
 use Rattle.std.proofs.Common.{◌≡◌}
 use Rattle.expr_table.specs.Table.{leaves}
-use Rattle.expr_table.specs.Places.{numbered}
+use Rattle.expr_table.specs.Interning.{numbered}
 use Rattle.expr_table.proofs.table.make.add_randoms.Given as goal
 
 abbrev pub invariant-loop-i : goal.invariant-loop-i
-invariant-loop-i l = l.places.entries ≡ numbered 0 (leaves l.inputs l.i)
+invariant-loop-i l = l.rows.entries ≡ numbered 0 (leaves l.inputs l.i)
