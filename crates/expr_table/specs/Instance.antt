@@ -1,12 +1,12 @@
 -- What the engines decide on: the rows that probes see, and when an instance is fitting.
-use Rattle.std.specs.Prelude.{ℕ, ◌<◌, ◌≤◌, ◌≡◌, List, map, length, IfSome, All}
+use Rattle.std.specs.Prelude.{ℕ, ◌<◌, ◌≤◌, ◌≡◌, List, length, IfSome, All}
 use Rattle.expr_table.specs.declared.instance.Instance.{Instance}
 use Rattle.expr_table.specs.declared.instance.ProbeRoots.{ProbeRoots}
-use Rattle.expr_table.specs.declared.node.Row.{Row}
+use Rattle.expr_table.specs.Table.{numbers}
 
 -- the rows that a probe sees, as numbers
 abbrev pub rows_of : ProbeRoots → List ℕ
-rows_of probe = map (λ (row : Row). row.0) probe.rows
+rows_of probe = numbers probe.rows
 
 -- roots are rows of the table, and each input leaf has its group, which is below the number of input leaves
 pub record IsFitting (x : Instance) : Type 0 where

@@ -16,6 +16,10 @@ pub record Table : Type 0 where
   pub randoms : ℕ
   pub nodes : List Node
 
+-- rows as numbers
+abbrev pub numbers : List Row → List ℕ
+numbers rows = map (λ (row : Row). row.0) rows
+
 -- the node of a row
 abbrev pub node_at : List Node → ℕ → Node
 node_at nodes row = slice_index_or nodes row node.Zero

@@ -5,13 +5,10 @@ use Rattle.std.proofs.lemmas.List.{reverse-append, map-append, get_or-replicate,
 use Rattle.std.specs.Option.{option_map_or}
 use Rattle.expr_table.specs.declared.node.Node.{Node}
 use Rattle.expr_table.specs.declared.node.Row.{Row}
-use Rattle.expr_table.specs.Table.{has}
+use Rattle.expr_table.specs.Table.{has, numbers}
 use Rattle.once_random.specs.Cuts.{least_after, next_cut}
 use Rattle.once_random.specs.Sets.{is_in, Marks}
 use Rattle.once_random.proofs.Marking.{has-++}
-
-abbrev pub numbers : List Row → List ℕ
-numbers rows = map (λ (row : Row). row.0) rows
 
 module _ (nodes : List Node) (roots done : List ℕ) where
   pub least_after-none : (n : ℕ) → next_cut nodes roots done ≡ None → least_after nodes roots n done ≡ done

@@ -6,7 +6,7 @@ use Rattle.expr_table.specs.declared.node.Node.{Node}
 use Rattle.expr_table.specs.Table.{node_at, sides, has}
 use Rattle.once_random.specs.Numbers.{count_below}
 use Rattle.once_random.specs.Live.{is_live, is_live_parent}
-use Rattle.once_random.specs.Flags.{live_parents}
+use Rattle.once_random.specs.Cutting.{live_parents}
 use Rattle.once_random.specs.Sets.{is_in, Marks, Counts}
 
 le_more : (a b k n : ℕ) → a ≤ n → b ≡ k → k ≤ 1 → a + b ≤ suc n

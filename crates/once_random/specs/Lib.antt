@@ -5,4 +5,4 @@ pub mod Groups
 pub mod Provable
 pub mod Tuples
 pub mod Sets
-pub mod Flags
+pub mod Cutting

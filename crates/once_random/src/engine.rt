@@ -1,22 +1,18 @@
-ghost use Rattle.std.specs.Prelude.{◌≡◌, ◌<◌, ℕ, List, All, IfOk, length, map, reverse};
-ghost use Rattle.expr_table.specs.declared.node.Row.{Row};
+//! The calls of the engine.
+ghost use Rattle.std.specs.Prelude.{◌≡◌, IfOk, length};
 ghost use Rattle.expr_table.specs.Instance.{IsFitting};
-ghost use Rattle.expr_table.specs.Table.{has};
 ghost use Rattle.once_random.specs.Cuts as cuts;
+ghost use Rattle.once_random.specs.Cutting.{AreWithin, cuts_of};
 ghost use Rattle.once_random.specs.Groups.{is_within};
-ghost use Rattle.once_random.specs.Live.{is_live};
-ghost use Rattle.once_random.specs.Sets.{Marks, members};
+ghost use Rattle.once_random.specs.Sets.{members};
 ghost use Rattle.once_random.specs.Tuples.{is_proved, roots_of};
 
 use crate::NoMemory;
 use crate::bit_row::BitRow;
 use crate::bounds::bound;
-use crate::least_chain::least_chain;
 use crate::leaves::leaves_are_within;
-use crate::live::mark_live;
-use crate::roots::{mark_roots, mark_rows};
 use crate::scratch::Scratch;
-use expr_table::{ExprTable, Instance, Row};
+use expr_table::{Instance, Row};
 use std::alloc::Global;
 
 /// The least chain of a tuple of probes: the rows that are cut, in order.
@@ -30,37 +26,12 @@ pub fn chain(
     requires made_for { scratch.old ≡ length instance.now.table.nodes }
     requires one_flag_each { length probes.now ≡ length instance.now.probes }
     ensures stays_fit { scratch.new ≡ scratch.old }
-    ensures least { IfOk result (λ chain. map (λ (row : Row). row.0) chain.items ≡ reverse (cuts.least_chain instance.now.table.nodes (roots_of instance.now (members probes.now)))) }
-    ensures rows { IfOk result (λ chain. All (λ (row : Row). row.0 < length instance.now.table.nodes) chain.items) }
+    ensures least { IfOk result (λ chain. cuts_of chain.items
+        ≡ cuts.least_chain instance.now.table.nodes (roots_of instance.now (members probes.now))) }
+    ensures rows { IfOk result (λ chain. AreWithin instance.now.table chain.items) }
 {
-    mark_roots(instance, probes, &mut scratch.root);
-    least_chain(
-        alloc,
-        &instance.table,
-        &scratch.root,
-        &mut scratch.cut,
-        &mut scratch.live,
-        &mut scratch.counts,
-    )
-}
-
-/// Marks the rows that are live once these rows are cut.
-fn mark_live_after(
-    table: &ExprTable,
-    root: &[bool],
-    cuts: &[Row],
-    cut: &mut [bool],
-    live: &mut [bool],
-)
-    requires root_len { length root.now ≡ length table.now.nodes }
-    requires cut_rows { All (λ (row : Row). row.0 < length table.now.nodes) cuts.now }
-    requires cut_len { length cut.old ≡ length table.now.nodes }
-    requires live_len { length live.old ≡ length table.now.nodes }
-    ensures { (roots : List ℕ) → Marks root.now (has roots) → Marks live.new (is_live table.now.nodes roots (reverse (map (λ (row : Row). row.0) cuts.now))) }
-{
-    cut.fill(false);
-    mark_rows(cuts, cut);
-    mark_live(table, root, cut, live);
+    scratch.cutting.see(instance, probes);
+    scratch.cutting.least_chain(alloc, &instance.table)
 }
 
 /// Whether a tuple of probes leaves at most `bound` live input leaves in each group, once these rows
@@ -75,22 +46,19 @@ pub fn leaves_within(
     requires fitting { IsFitting instance.now }
     requires made_for { scratch.old ≡ length instance.now.table.nodes }
     requires one_flag_each { length probes.now ≡ length instance.now.probes }
-    requires cut_rows { All (λ (row : Row). row.0 < length instance.now.table.nodes) cuts.now }
+    requires cut_rows { AreWithin instance.now.table cuts.now }
     ensures stays_fit { scratch.new ≡ scratch.old }
-    ensures within { result ≡ is_within instance.now (roots_of instance.now (members probes.now)) (reverse (map (λ (row : Row). row.0) cuts.now)) bound }
+    ensures within { result
+        ≡ is_within instance.now (roots_of instance.now (members probes.now)) (cuts_of cuts.now) bound }
 {
-    mark_roots(instance, probes, &mut scratch.root);
-    mark_live_after(
-        &instance.table,
-        &scratch.root,
-        cuts,
-        &mut scratch.cut,
-        &mut scratch.live,
-    );
-    leaves_are_within(instance, &scratch.live, &mut scratch.counts, bound)
+    let cutting = &mut scratch.cutting;
+    cutting.see(instance, probes);
+    cutting.mark_live_after(&instance.table, cuts);
+    leaves_are_within(instance, &cutting.live, &mut scratch.leaves, bound)
 }
 
-/// Whether the least chain of a tuple of probes leaves the live input leaves within the tuple's bound.
+/// Whether a tuple of probes is provable: the least chain leaves the live input leaves within the tuple's
+/// bound.
 pub fn is_proved(
     alloc: Global,
     instance: &Instance,

@@ -1,4 +1,6 @@
-ghost use Rattle.std.specs.Prelude.{◌≡◌, ◌<◌, ◌≤◌, ◌+◌, ◌^◌, ◌&&◌, ℕ, List, Option, All, IfSome, length, if◌then◌else◌, nat_le, slice_index_or};
+//! Counts of live leaves.
+ghost use Rattle.std.specs.Prelude.{◌≡◌, ◌<◌, ◌≤◌, ◌+◌, ◌^◌, ◌&&◌, ℕ, List, Option, All, IfSome};
+ghost use Rattle.std.specs.Prelude.{length, if◌then◌else◌, nat_le, slice_index_or};
 ghost use Rattle.expr_table.specs.Instance.{IsFitting};
 ghost use Rattle.once_random.specs.Groups.{is_group, is_in_group, is_within};
 ghost use Rattle.once_random.specs.Live.{is_live};
@@ -11,7 +13,8 @@ use expr_table::Instance;
 fn count_leaf(group: Option<u32>, counts: &mut [u32])
     requires within { IfSome group (λ secret. secret < length counts.old) }
     requires room { IfSome group (λ secret. slice_index_or counts.old secret 0 + 1 < 2 ^ 32) }
-    ensures { (other : ℕ) → other < length counts.old → slice_index_or counts.new other 0 ≡ slice_index_or counts.old other 0 + (if is_group other group then 1 else 0) }
+    ensures { (other : ℕ) → other < length counts.old → slice_index_or counts.new other 0
+        ≡ slice_index_or counts.old other 0 + (if is_group other group then 1 else 0) }
 {
     if let Some(secret) = group {
         counts[secret as usize] += 1;
@@ -24,7 +27,8 @@ fn count_leaves(groups: &[Option<u32>], live: &[bool], counts: &mut [u32])
     requires counts_len { length groups.now ≤ length counts.old }
     requires small { length groups.now < 2 ^ 32 }
     requires within { All (λ group. IfSome group (λ secret. secret < length groups.now)) groups.now }
-    ensures { Counts counts.new (λ group. count_below (length groups.now) (λ i. is_in_group groups.now group i && is_in live.now (2 + i))) }
+    ensures { Counts counts.new (λ group. count_below (length groups.now)
+        (λ i. is_in_group groups.now group i && is_in live.now (2 + i))) }
 {
     counts.fill(0);
     for i in 0..groups.len() {
@@ -52,7 +56,8 @@ pub fn leaves_are_within(instance: &Instance, live: &[bool], counts: &mut [u32],
     requires fitting { IsFitting instance.now }
     requires live_len { length live.now ≡ length instance.now.table.nodes }
     requires counts_len { length counts.old ≡ length instance.now.table.nodes }
-    ensures { (roots cuts : List ℕ) → Marks live.now (is_live instance.now.table.nodes roots cuts) → result ≡ is_within instance.now roots cuts bound }
+    ensures { (roots cuts : List ℕ) → Marks live.now (is_live instance.now.table.nodes roots cuts)
+        → result ≡ is_within instance.now roots cuts bound }
 {
     let groups = instance.groups.as_slice();
     let rows = instance.table.rows() as usize;

@@ -16,6 +16,7 @@ use std::alloc::AllocError;
 
 mod bit_row;
 mod bounds;
+mod cutting;
 mod engine;
 mod laws;
 mod least_chain;

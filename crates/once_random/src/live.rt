@@ -1,8 +1,11 @@
+//! Marks of the live rows.
 ghost use Rattle.std.specs.Prelude.{◌≡◌, ◌<◌, ◌||◌, ℕ, List, IsTrue, length};
 ghost use Rattle.expr_table.specs.Table.{has, sides};
+ghost use Rattle.once_random.specs.Cutting.{HasRows, IsShownLive, KeepsSets, Shows};
 ghost use Rattle.once_random.specs.Live.{is_live};
 ghost use Rattle.once_random.specs.Sets.{Marks, is_in};
 
+use crate::cutting::Cutting;
 use expr_table::{ExprTable, Node, Row};
 
 /// Marks the sides of a node.
@@ -19,18 +22,31 @@ fn mark_sides(node: Node, live: &mut [bool])
     }
 }
 
-/// Marks the live rows, from the last row to the first: sides have lesser rows.
-pub fn mark_live(table: &ExprTable, root: &[bool], cut: &[bool], live: &mut [bool])
-    requires root_len { length root.now ≡ length table.now.nodes }
+/// Marks what the marked rows read, from the last row to the first: sides have lesser rows.
+fn read_on(table: &ExprTable, cut: &[bool], live: &mut [bool])
     requires cut_len { length cut.now ≡ length table.now.nodes }
     requires live_len { length live.old ≡ length table.now.nodes }
-    ensures { (roots cuts : List ℕ) → Marks root.now (has roots) → Marks cut.now (has cuts) → Marks live.new (is_live table.now.nodes roots cuts) }
+    ensures { (roots cuts : List ℕ) → Marks live.old (has roots) → Marks cut.now (has cuts)
+        → Marks live.new (is_live table.now.nodes roots cuts) }
 {
-    live.copy_from_slice(root);
     for row in (0..table.rows()).rev() {
         let is_read_on = live[row as usize] & !cut[row as usize];
         if is_read_on {
             mark_sides(table.node(Row(row)), live);
         }
+    }
+}
+
+impl Cutting {
+    /// Marks the live rows.
+    pub fn mark_live(&mut self, table: &ExprTable)
+        requires { HasRows self.old (length table.now.nodes) }
+        ensures rows { HasRows self.new (length table.now.nodes) }
+        ensures kept { KeepsSets self.old self.new }
+        ensures live { (roots cuts : List ℕ) → Shows self.old roots cuts
+            → IsShownLive table.now.nodes self.new roots cuts }
+    {
+        self.live.copy_from_slice(&self.root);
+        read_on(table, &self.cut, &mut self.live);
     }
 }

@@ -1,6 +1,7 @@
-ghost use Rattle.std.specs.Prelude.{◌≡◌, ◌<◌, ◌||◌, ℕ, All, length, map};
+//! Marks of roots, and of rows that are listed.
+ghost use Rattle.std.specs.Prelude.{◌≡◌, ◌<◌, ◌||◌, ℕ, All, length};
 ghost use Rattle.expr_table.specs.declared.node.Row.{Row};
-ghost use Rattle.expr_table.specs.Table.{has};
+ghost use Rattle.expr_table.specs.Table.{has, numbers};
 ghost use Rattle.expr_table.specs.Instance.{IsFitting};
 ghost use Rattle.once_random.specs.Sets.{Marks, is_in, members};
 ghost use Rattle.once_random.specs.Tuples.{roots_of};
@@ -11,7 +12,7 @@ use expr_table::{Instance, Row};
 /// Marks rows.
 pub fn mark_rows(rows: &[Row], marks: &mut [bool])
     requires { All (λ (row : Row). row.0 < length marks.old) rows.now }
-    ensures { (i : ℕ) → i < length marks.old → is_in marks.new i ≡ (has (map (λ (row : Row). row.0) rows.now) i || is_in marks.old i) }
+    ensures { (i : ℕ) → i < length marks.old → is_in marks.new i ≡ (has (numbers rows.now) i || is_in marks.old i) }
 {
     for row in rows {
         marks[row.0 as usize] = true;
@@ -22,7 +23,7 @@ pub fn mark_rows(rows: &[Row], marks: &mut [bool])
 pub fn mark_roots(instance: &Instance, probes: &BitRow, marks: &mut [bool])
     requires fitting { IsFitting instance.now }
     requires one_flag_each { length probes.now ≡ length instance.now.probes }
-    requires marks_len { length marks.old ≡ length instance.now.table.nodes }
+    requires one_mark_each { length marks.old ≡ length instance.now.table.nodes }
     ensures { Marks marks.new (has (roots_of instance.now (members probes.now))) }
 {
     marks.fill(false);

@@ -1,6 +1,8 @@
+//! Work lists that a caller makes once.
 ghost use Rattle.std.specs.Prelude.{◌≡◌, IfOk, length};
 
 use crate::NoMemory;
+use crate::cutting::Cutting;
 use expr_table::Instance;
 use std::alloc::Global;
 use std::marker::Model;
@@ -9,10 +11,9 @@ use std::marker::Model;
 /// what they hold changes no answer.
 #[derive(Drop)]
 pub struct Scratch {
-    pub(crate) root: Vec<bool>,
-    pub(crate) cut: Vec<bool>,
-    pub(crate) live: Vec<bool>,
-    pub(crate) counts: Vec<u32>,
+    pub(crate) cutting: Cutting,
+    /// For each group, how many of its leaves are live.
+    pub(crate) leaves: Vec<u32>,
 }
 
 impl Model for Scratch {
@@ -20,9 +21,9 @@ impl Model for Scratch {
 
     ghost Value = { ℕ };
 
-    ghost view = { λ s. length s.root.items };
+    ghost view = { λ s. length s.cutting.root.items };
 
-    ghost invariant = { λ s. (length s.cut.items ≡ length s.root.items) × (length s.live.items ≡ length s.root.items) × (length s.counts.items ≡ length s.root.items) };
+    ghost invariant = { λ s. length s.leaves.items ≡ length s.cutting.root.items };
 }
 
 impl Scratch {
@@ -30,12 +31,10 @@ impl Scratch {
     pub fn make(alloc: Global, instance: &Instance) -> Result<Scratch, NoMemory>
         ensures { IfOk result (λ scratch. scratch ≡ length instance.now.table.nodes) }
     {
-        let rows = instance.table.rows() as usize;
+        let rows = instance.table.rows();
         Ok(Scratch {
-            root: vec![in alloc; false; rows]?,
-            cut: vec![in alloc; false; rows]?,
-            live: vec![in alloc; false; rows]?,
-            counts: vec![in alloc; 0; rows]?,
+            cutting: Cutting::make(alloc, rows)?,
+            leaves: vec![in alloc; 0; rows as usize]?,
         })
     }
 }

@@ -1,12 +1,11 @@
-use Rattle.std.proofs.Common.{◌∙◌, List, ℕ, reverse, ap}
-use Rattle.std.proofs.lemmas.List.{reverse-reverse}
+use Rattle.std.proofs.Common.{◌∙◌, List, ℕ, ap}
 use Rattle.expr_table.specs.declared.node.Row.{Row}
 use Rattle.once_random.specs.Cuts.{least_chain}
+use Rattle.once_random.specs.Cutting.{cuts_of}
 use Rattle.once_random.specs.Groups.{is_within}
 use Rattle.once_random.specs.Provable.{is_provable}
 use Rattle.once_random.specs.Sets.{members}
 use Rattle.once_random.specs.Tuples.{is_proved, roots_of}
-use Rattle.once_random.proofs.Chains.{numbers}
 use Rattle.once_random.proofs.engine.is_proved.Goals as goal
 
 pub returns-clause-proved : goal.returns-clause-proved
@@ -16,7 +15,6 @@ returns-clause-proved c =
     let roots = roots_of c.args.instance.now (members c.args.probes.now) in
     let cuts = least_chain c.args.instance.now.table.nodes (roots_of c.args.instance.now (members c.args.probes.now)) in
     c.leaves_within.ensures.within
-    ∙ ap (λ (rows : List Row). is_within x roots (reverse (numbers rows)) c.bound.result) c.deref.ensures.value
-    ∙ ap (λ (ns : List ℕ). is_within x roots (reverse ns) c.bound.result) c.in_ok-cuts.ensures.least
-    ∙ ap (λ (ns : List ℕ). is_within x roots ns c.bound.result) (reverse-reverse cuts)
+    ∙ ap (λ (rows : List Row). is_within x roots (cuts_of rows) c.bound.result) c.deref.ensures.value
+    ∙ ap (λ (ns : List ℕ). is_within x roots ns c.bound.result) c.in_ok-cuts.ensures.least
     ∙ ap (is_within x roots cuts) c.bound.ensures

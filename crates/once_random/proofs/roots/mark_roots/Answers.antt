@@ -1,10 +1,9 @@
 use Rattle.std.proofs.Common.{◌≡◌, ◌+◌, ◌<◌, List, length, get_or, arith, sym, ap, ◌∙◌, subst, ◌||◌}
 use Rattle.expr_table.specs.declared.instance.ProbeRoots.{ProbeRoots}
 use Rattle.expr_table.specs.declared.node.Row.{Row}
-use Rattle.expr_table.specs.Table.{has}
+use Rattle.expr_table.specs.Table.{has, numbers}
 use Rattle.once_random.specs.Sets.{is_in, Marks, members_below}
 use Rattle.once_random.specs.Tuples.{roots_of}
-use Rattle.once_random.proofs.Chains.{numbers}
 use Rattle.once_random.proofs.RootRows.{rows_within, one_more_probe, no_more_probe}
 use Rattle.once_random.proofs.roots.mark_roots.Goals as goal
 use Rattle.once_random.proofs.roots.mark_roots.Goals.{then-get, else-get}

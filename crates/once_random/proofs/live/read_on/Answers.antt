@@ -3,7 +3,7 @@ use Rattle.once_random.proofs.Sides.{sides_before, node_read}
 use Rattle.once_random.proofs.Marking.{IsHalfway, marked, unmarked, begun, done}
 use Rattle.expr_table.specs.Table.{sides, has, node_at}
 use Rattle.once_random.specs.Sets.{is_in}
-use Rattle.once_random.proofs.live.mark_live.Goals as goal
+use Rattle.once_random.proofs.live.read_on.Goals as goal
 
 pub mark_sides-requires : goal.mark_sides-requires
 mark_sides-requires c side h =
@@ -12,8 +12,7 @@ mark_sides-requires c side h =
 
 pub loop-row-init : goal.loop-row-init
 loop-row-init c roots cuts root cut =
-    subst (λ flags. IsHalfway c.args.table.now.nodes roots cuts flags c.rows-row.result) (sym c.copy_from_slice.ensures.after)
-    (subst (IsHalfway c.args.table.now.nodes roots cuts c.args.root.now) (sym c.rows-row.ensures.rows) (begun c.args.table.now.nodes roots cuts c.args.root.now root))
+    subst (IsHalfway c.args.table.now.nodes roots cuts c.args.live.now) (sym c.rows-row.ensures.rows) (begun c.args.table.now.nodes roots cuts c.args.live.now root)
 
 pub loop-row-preserved-then-is_read_on : goal.loop-row-preserved-then-is_read_on
 loop-row-preserved-then-is_read_on c roots cuts root cut =

@@ -3,7 +3,7 @@ use Rattle.once_random.specs.Numbers.{least_below}
 use Rattle.once_random.specs.Cuts as cuts
 use Rattle.once_random.specs.Cuts.{next_cut}
 use Rattle.once_random.proofs.Least.{none_more, found_at}
-use Rattle.once_random.proofs.next_cut.least_cut.Goals as goal
+use Rattle.once_random.proofs.cutting.Cutting.least_cut.Goals as goal
 
 pub returns-then-may_be_cut-clause-next : goal.returns-then-may_be_cut-clause-next
 unfolding next_cut
