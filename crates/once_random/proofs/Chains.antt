@@ -21,7 +21,7 @@ module _ (nodes : List Node) (roots done : List ℕ) where
 pub latest_first : (rows : List Row) (row : Row) → reverse (numbers (rows ++ row ∷ [])) ≡ row.0 ∷ reverse (numbers rows)
 latest_first rows row = ap reverse (map-append (λ (row : Row). row.0) rows (row ∷ [])) ∙ reverse-append (numbers rows) (row.0 ∷ [])
 
-or_comm : (a b : Bool) → (a || b) ≡ (b || a)
+pub or_comm : (a b : Bool) → (a || b) ≡ (b || a)
 or_comm true true = refl
 or_comm true false = refl
 or_comm false true = refl

@@ -9,7 +9,7 @@ use Rattle.expr_table.specs.Instance.{rows_of}
 use Rattle.expr_table.specs.Table.{has, numbers}
 use Rattle.once_random.specs.Sets.{is_in, Marks, members_below}
 use Rattle.once_random.specs.Tuples.{probe_at, roots_of}
-use Rattle.once_random.proofs.Chains.{marked_one}
+use Rattle.once_random.proofs.Chains.{marked_one, or_comm}
 use Rattle.once_random.proofs.Marking.{has-++}
 
 -- the rows of a probe that was read are rows of the table
@@ -23,12 +23,6 @@ rows_within probes n all p probe lt is k d l =
 roots_of-append : (x : Instance) (ps qs : List ℕ) → roots_of x (ps ++ qs) ≡ roots_of x ps ++ roots_of x qs
 roots_of-append x [] qs = refl
 roots_of-append x (p ∷ ps) qs = ap (λ rows. rows_of (probe_at x.probes p) ++ rows) (roots_of-append x ps qs) ∙ sym (append_assoc (rows_of (probe_at x.probes p)) (roots_of x ps) (roots_of x qs))
-
-or_comm : (a b : Bool) → (a || b) ≡ (b || a)
-or_comm true true = refl
-or_comm true false = refl
-or_comm false true = refl
-or_comm false false = refl
 
 or_moved : (a b c : Bool) → (a || (b || c)) ≡ ((b || (a || false)) || c)
 or_moved true true c = refl

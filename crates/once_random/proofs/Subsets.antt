@@ -9,7 +9,7 @@ use Rattle.once_random.specs.Live.{AreAmong, AreSameRows, reached, is_live, is_l
 use Rattle.once_random.specs.Cuts.{is_random, masks, is_masked, is_allowed, may_be_cut, next_cut, least_after, least_chain, IsChain}
 use Rattle.once_random.specs.Numbers.{least_below}
 use Rattle.once_random.proofs.Alone.{all_below-at, all_below-from, same_tests}
-use Rattle.once_random.proofs.LiveRows.{has-append, has-append_left, has-append_right}
+use Rattle.once_random.proofs.LiveRows.{has-append, has-append_left, wants, next, next-keeps}
 
 -- lists that hold the same rows hold each other's
 pub among_same : (rows others : List ℕ) → AreSameRows rows others → AreAmong rows others
@@ -22,33 +22,22 @@ same_self : (rows : List ℕ) → AreSameRows rows rows
 same_self rows row = refl
 
 module _ (nodes : List Node) (cuts more : List ℕ) (same : AreSameRows cuts more) where
-  abbrev wants : List ℕ → List ℕ → ℕ → Bool
-  wants cut wanted row = has wanted row && not (has cut row)
-
-  abbrev next : List ℕ → List ℕ → ℕ → List ℕ
-  next cut wanted row = cond (wants cut wanted row) (sides (node_at nodes row) ++ wanted) wanted
-
-  next-keeps : (cut wanted : List ℕ) (row r : ℕ) → has wanted r ≡ true → has (next cut wanted row) r ≡ true
-  next-keeps cut wanted row r h =
-      ⊎_elim (λ e. subst (λ l. has l r ≡ true) (sym (cond-true (wants cut wanted row) _ _ e)) (has-append_right (sides (node_at nodes row)) wanted r h))
-      (λ e. subst (λ l. has l r ≡ true) (sym (cond-false (wants cut wanted row) _ _ e)) h) (cases_Bool (wants cut wanted row))
-
-  next-among : (less wanted : List ℕ) → AreAmong less wanted → (row : ℕ) → AreAmong (next cuts less row) (next more wanted row)
+  next-among : (less wanted : List ℕ) → AreAmong less wanted → (row : ℕ) → AreAmong (next nodes cuts less row) (next nodes more wanted row)
   next-among less wanted among row r h =
       ⊎_elim
       (λ e.
       let parts = and_parts (has less row) (not (has cuts row)) e in
-      let leads : wants more wanted row ≡ true = and_from (has wanted row) (not (has more row)) (among row parts.0) (ap not (sym (same row)) ∙ parts.1) in
+      let leads : wants nodes more wanted row ≡ true = and_from (has wanted row) (not (has more row)) (among row parts.0) (ap not (sym (same row)) ∙ parts.1) in
       ⊎_elim
-      (λ f. subst (λ l. has l r ≡ true) (sym (cond-true (wants more wanted row) _ _ leads)) (has-append_left (sides (node_at nodes row)) wanted r f))
-      (λ f. next-keeps more wanted row r (among r f))
-      (has-append (sides (node_at nodes row)) less r (subst (λ l. has l r ≡ true) (cond-true (wants cuts less row) _ _ e) h)))
-      (λ e. next-keeps more wanted row r (among r (subst (λ l. has l r ≡ true) (cond-false (wants cuts less row) _ _ e) h)))
-      (cases_Bool (wants cuts less row))
+      (λ f. subst (λ l. has l r ≡ true) (sym (cond-true (wants nodes more wanted row) _ _ leads)) (has-append_left (sides (node_at nodes row)) wanted r f))
+      (λ f. next-keeps nodes more wanted row r (among r f))
+      (has-append (sides (node_at nodes row)) less r (subst (λ l. has l r ≡ true) (cond-true (wants nodes cuts less row) _ _ e) h)))
+      (λ e. next-keeps nodes more wanted row r (among r (subst (λ l. has l r ≡ true) (cond-false (wants nodes cuts less row) _ _ e) h)))
+      (cases_Bool (wants nodes cuts less row))
 
   reached-among : (k : ℕ) (less wanted : List ℕ) → AreAmong less wanted → AreAmong (reached nodes cuts k less) (reached nodes more k wanted)
   reached-among zero less wanted among = among
-  reached-among (suc row) less wanted among = reached-among row (next cuts less row) (next more wanted row) (next-among less wanted among row)
+  reached-among (suc row) less wanted among = reached-among row (next nodes cuts less row) (next nodes more wanted row) (next-among less wanted among row)
 
   module _ (some roots : List ℕ) (among : AreAmong some roots) where
     -- what some of the roots leave live, all of them do

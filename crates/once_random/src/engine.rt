@@ -30,7 +30,7 @@ pub fn chain(
         ≡ cuts.least_chain instance.now.table.nodes (roots_of instance.now (members probes.now))) }
     ensures rows { IfOk result (λ chain. AreWithin instance.now.table chain.items) }
 {
-    scratch.cutting.see(instance, probes);
+    scratch.cutting.mark_roots(instance, probes);
     scratch.cutting.least_chain(alloc, &instance.table)
 }
 
@@ -52,7 +52,7 @@ pub fn leaves_within(
         ≡ is_within instance.now (roots_of instance.now (members probes.now)) (cuts_of cuts.now) bound }
 {
     let cutting = &mut scratch.cutting;
-    cutting.see(instance, probes);
+    cutting.mark_roots(instance, probes);
     cutting.mark_live_after(&instance.table, cuts);
     leaves_are_within(instance, &cutting.live, &mut scratch.leaves, bound)
 }

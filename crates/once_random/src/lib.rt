@@ -12,8 +12,6 @@
 //! which is made once for an instance.
 #![tactic(auto)]
 
-use std::alloc::AllocError;
-
 mod bit_row;
 mod bounds;
 mod cutting;
@@ -30,12 +28,10 @@ mod scratch;
 pub use bit_row::BitRow;
 pub use bounds::bound;
 pub use engine::{chain, is_proved, leaves_within};
+pub use expr_table::NoMemory;
 pub use laws::{
     least_chain_decides, least_chain_is_full, live_is_least, proved_is_provable, roots_are_a_set,
     saturated_chain_decides, saturated_leaves_least, subset_keeps_chain, tuples_have_roots,
     within_is_each_group,
 };
 pub use scratch::Scratch;
-
-/// Memory was refused.
-pub type NoMemory = AllocError;

@@ -1,11 +1,12 @@
 //! Marks of the live rows.
 ghost use Rattle.std.specs.Prelude.{◌≡◌, ◌<◌, ◌||◌, ℕ, List, IsTrue, length};
 ghost use Rattle.expr_table.specs.Table.{has, sides};
-ghost use Rattle.once_random.specs.Cutting.{HasRows, IsShownLive, KeepsSets, Shows};
+ghost use Rattle.once_random.specs.Cutting.{AreWithin, HasRows, IsShownLive, KeepsSets, Shows, cuts_of};
 ghost use Rattle.once_random.specs.Live.{is_live};
 ghost use Rattle.once_random.specs.Sets.{Marks, is_in};
 
 use crate::cutting::Cutting;
+use crate::roots::mark_rows;
 use expr_table::{ExprTable, Node, Row};
 
 /// Marks the sides of a node.
@@ -48,5 +49,18 @@ impl Cutting {
     {
         self.live.copy_from_slice(&self.root);
         read_on(table, &self.cut, &mut self.live);
+    }
+
+    /// Makes these cuts, and no others, and marks what is live then.
+    pub fn mark_live_after(&mut self, table: &ExprTable, cuts: &[Row])
+        requires rows { HasRows self.old (length table.now.nodes) }
+        requires within { AreWithin table.now cuts.now }
+        ensures rows { HasRows self.new (length table.now.nodes) }
+        ensures live { (roots : List ℕ) → Marks self.old.root.items (has roots)
+            → IsShownLive table.now.nodes self.new roots (cuts_of cuts.now) }
+    {
+        self.clear();
+        mark_rows(cuts, &mut self.cut);
+        self.mark_live(table);
     }
 }

@@ -3,10 +3,12 @@ ghost use Rattle.std.specs.Prelude.{◌≡◌, ◌<◌, ◌||◌, ℕ, All, leng
 ghost use Rattle.expr_table.specs.declared.node.Row.{Row};
 ghost use Rattle.expr_table.specs.Table.{has, numbers};
 ghost use Rattle.expr_table.specs.Instance.{IsFitting};
+ghost use Rattle.once_random.specs.Cutting.{HasRows};
 ghost use Rattle.once_random.specs.Sets.{Marks, is_in, members};
 ghost use Rattle.once_random.specs.Tuples.{roots_of};
 
 use crate::bit_row::BitRow;
+use crate::cutting::Cutting;
 use expr_table::{Instance, Row};
 
 /// Marks rows.
@@ -19,8 +21,8 @@ pub fn mark_rows(rows: &[Row], marks: &mut [bool])
     }
 }
 
-/// Marks the rows that the set's probes see.
-pub fn mark_roots(instance: &Instance, probes: &BitRow, marks: &mut [bool])
+/// Marks the rows that the set's probes see, and no others.
+fn mark_roots(instance: &Instance, probes: &BitRow, marks: &mut [bool])
     requires fitting { IsFitting instance.now }
     requires one_flag_each { length probes.now ≡ length instance.now.probes }
     requires one_mark_each { length marks.old ≡ length instance.now.table.nodes }
@@ -32,5 +34,18 @@ pub fn mark_roots(instance: &Instance, probes: &BitRow, marks: &mut [bool])
         if probes.get(probe) {
             mark_rows(roots[probe as usize].rows.as_slice(), marks);
         }
+    }
+}
+
+impl Cutting {
+    /// Marks the roots of a tuple of probes, and no others.
+    pub fn mark_roots(&mut self, instance: &Instance, probes: &BitRow)
+        requires fitting { IsFitting instance.now }
+        requires rows { HasRows self.old (length instance.now.table.nodes) }
+        requires one_flag_each { length probes.now ≡ length instance.now.probes }
+        ensures rows { HasRows self.new (length instance.now.table.nodes) }
+        ensures roots { Marks self.new.root.items (has (roots_of instance.now (members probes.now))) }
+    {
+        mark_roots(instance, probes, &mut self.root);
     }
 }
