@@ -4,7 +4,7 @@ use Rattle.std.specs.Prelude.{replicate}
 use Rattle.std.specs.List.{find, range_with_len, slice_get}
 use Rattle.std.proofs.lemmas.Bool.{cases_eq, cond-true, cond-false}
 use Rattle.std.proofs.lemmas.List.{get_or-replicate, length-replicate}
-use Rattle.once_random.specs.Sets.{is_in, members_below}
+use Rattle.bit_rows.specs.Sets.{is_in, members_below}
 
 module _ (n p : ℕ) (lt : p < n) where
   abbrev alone : List Bool

@@ -3,8 +3,9 @@ ghost use Rattle.std.specs.Option.{option_map};
 ghost use Rattle.expr_table.specs.Instance.{IsFitting};
 ghost use Rattle.once_random.specs.Tuples.{is_proved, first_unproved, tuples_of_one};
 
+use bit_rows::BitRow;
 use expr_table::Instance;
-use once_random::{BitRow, NoMemory, Scratch, is_proved};
+use once_random::{NoMemory, Scratch, is_proved};
 use std::alloc::Global;
 
 /// Whether the tuple of one probe is proved. The set of probes is empty before and after.

@@ -7,7 +7,7 @@ use Rattle.expr_table.specs.declared.node.Node.{Node}
 use Rattle.expr_table.specs.declared.node.Row.{Row}
 use Rattle.expr_table.specs.Table.{has, numbers}
 use Rattle.once_random.specs.Cuts.{least_after, next_cut}
-use Rattle.once_random.specs.Sets.{is_in, Marks}
+use Rattle.bit_rows.specs.Sets.{is_in, Marks}
 use Rattle.once_random.proofs.Marking.{has-++}
 
 module _ (nodes : List Node) (roots done : List ℕ) where

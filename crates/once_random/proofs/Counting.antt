@@ -7,7 +7,8 @@ use Rattle.expr_table.specs.Table.{node_at, sides, has}
 use Rattle.once_random.specs.Numbers.{count_below}
 use Rattle.once_random.specs.Live.{is_live, is_live_parent}
 use Rattle.once_random.specs.Cutting.{live_parents}
-use Rattle.once_random.specs.Sets.{is_in, Marks, Counts}
+use Rattle.bit_rows.specs.Sets.{is_in, Marks}
+use Rattle.once_random.specs.Numbers.{Counts}
 
 le_more : (a b k n : ℕ) → a ≤ n → b ≡ k → k ≤ 1 → a + b ≤ suc n
 le_more a b k n h e l = omega arith

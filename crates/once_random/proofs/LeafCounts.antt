@@ -6,7 +6,7 @@ use Rattle.once_random.specs.Live.{is_live}
 use Rattle.std.proofs.lemmas.List.{length-replicate, get_or-replicate}
 use Rattle.once_random.specs.Numbers.{all_below, count_below}
 use Rattle.once_random.specs.Groups.{is_group, is_in_group, live_leaves, is_within}
-use Rattle.once_random.specs.Sets.{is_in, Marks}
+use Rattle.bit_rows.specs.Sets.{is_in, Marks}
 use Rattle.once_random.proofs.Counting.{count_below-same}
 use Rattle.once_random.proofs.Alone.{all_below-at}
 

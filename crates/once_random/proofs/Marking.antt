@@ -4,7 +4,7 @@ use Rattle.std.proofs.lemmas.Bool.{cond-true, cond-false}
 use Rattle.expr_table.specs.declared.node.Node.{Node}
 use Rattle.expr_table.specs.Table.{node_at, sides, has}
 use Rattle.once_random.specs.Live.{reached, is_live}
-use Rattle.once_random.specs.Sets.{is_in, Marks}
+use Rattle.bit_rows.specs.Sets.{is_in, Marks}
 
 -- the flags are those of what is wanted once the rows from k on are done
 pub record IsHalfway (nodes : List Node) (roots cuts : List ℕ) (flags : List Bool) (k : ℕ) : Type 0 where

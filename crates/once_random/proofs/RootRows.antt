@@ -7,7 +7,7 @@ use Rattle.expr_table.specs.declared.instance.ProbeRoots.{ProbeRoots}
 use Rattle.expr_table.specs.declared.node.Row.{Row}
 use Rattle.expr_table.specs.Instance.{rows_of}
 use Rattle.expr_table.specs.Table.{has, numbers}
-use Rattle.once_random.specs.Sets.{is_in, Marks, members_below}
+use Rattle.bit_rows.specs.Sets.{is_in, Marks, members_below}
 use Rattle.once_random.specs.Tuples.{probe_at, roots_of}
 use Rattle.once_random.proofs.Chains.{marked_one, or_comm}
 use Rattle.once_random.proofs.Marking.{has-++}

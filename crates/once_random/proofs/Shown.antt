@@ -9,7 +9,7 @@ use Rattle.once_random.specs.Live.{is_live, is_live_parent}
 use Rattle.once_random.specs.Cuts.{is_random, is_fresh, has_no_parent_but, masks, is_masked, may_be_cut}
 use Rattle.once_random.specs.declared.cutting.Cutting.{Cutting}
 use Rattle.once_random.specs.Cutting.{live_parents, IsSwept, KeepsSets, Shows}
-use Rattle.once_random.specs.Sets.{is_in, Marks}
+use Rattle.bit_rows.specs.Sets.{is_in, Marks}
 use Rattle.once_random.proofs.Alone.{alone}
 
 and_assoc : (a b c : Bool) → ((a && b) && c) ≡ (a && (b && c))

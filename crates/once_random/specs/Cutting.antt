@@ -6,7 +6,8 @@ use Rattle.expr_table.specs.Table.{Table, has, numbers}
 use Rattle.once_random.specs.declared.cutting.Cutting.{Cutting}
 use Rattle.once_random.specs.Live.{is_live, is_live_parent}
 use Rattle.once_random.specs.Numbers.{count_below}
-use Rattle.once_random.specs.Sets.{Marks, Counts}
+use Rattle.bit_rows.specs.Sets.{Marks}
+use Rattle.once_random.specs.Numbers.{Counts}
 
 -- cuts in the order in which they are made, with the latest first
 abbrev pub cuts_of : List Row → List ℕ

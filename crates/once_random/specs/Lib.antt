@@ -4,5 +4,4 @@ pub mod Cuts
 pub mod Groups
 pub mod Provable
 pub mod Tuples
-pub mod Sets
 pub mod Cutting

@@ -1,22 +1,10 @@
+//! Bounds of tuples.
 ghost use Rattle.std.specs.Prelude.{◌≡◌, length};
-ghost use Rattle.once_random.specs.Sets.{members};
+ghost use Rattle.bit_rows.specs.Sets.{members};
 ghost use Rattle.once_random.specs.Tuples.{bound_of, internal_probes};
 
-use crate::bit_row::BitRow;
+use bit_rows::BitRow;
 use expr_table::{Instance, Notion};
-
-/// How many probes the set has.
-fn count_probes(probes: &BitRow) -> u32
-    ensures { result ≡ length (members probes.now) }
-{
-    let mut count = 0;
-    for probe in 0..probes.len() {
-        if probes.get(probe) {
-            count += 1;
-        }
-    }
-    count
-}
 
 /// How many probes of the set are no probes of an output share.
 fn count_internal(instance: &Instance, probes: &BitRow) -> u32
@@ -42,7 +30,7 @@ pub fn bound(instance: &Instance, probes: &BitRow) -> u32
 {
     match instance.notion {
         Notion::Probing => 0,
-        Notion::Ni => count_probes(probes),
+        Notion::Ni => probes.count(),
         Notion::Sni => count_internal(instance, probes),
     }
 }

@@ -21,7 +21,7 @@ impl Cutting {
     ghost use Rattle.std.specs.Prelude.{◌<◌, ◌∷◌, ℕ, List, IfOk, []};
     ghost use Rattle.expr_table.specs.Table.{has};
     ghost use Rattle.once_random.specs.Cutting.{HasRows, Shows};
-    ghost use Rattle.once_random.specs.Sets.{Marks};
+    ghost use Rattle.bit_rows.specs.Sets.{Marks};
 
     /// For a table of so many rows.
     pub fn make(alloc: Global, rows: u32) -> Result<Cutting, NoMemory>

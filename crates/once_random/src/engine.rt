@@ -4,11 +4,11 @@ ghost use Rattle.expr_table.specs.Instance.{IsFitting};
 ghost use Rattle.once_random.specs.Cuts as cuts;
 ghost use Rattle.once_random.specs.Cutting.{AreWithin, cuts_of};
 ghost use Rattle.once_random.specs.Groups.{is_within};
-ghost use Rattle.once_random.specs.Sets.{members};
+ghost use Rattle.bit_rows.specs.Sets.{members};
 ghost use Rattle.once_random.specs.Tuples.{is_proved, roots_of};
 
 use crate::NoMemory;
-use crate::bit_row::BitRow;
+use bit_rows::BitRow;
 use crate::bounds::bound;
 use crate::leaves::leaves_are_within;
 use crate::scratch::Scratch;

@@ -5,7 +5,8 @@ ghost use Rattle.expr_table.specs.Instance.{IsFitting};
 ghost use Rattle.once_random.specs.Groups.{is_group, is_in_group, is_within};
 ghost use Rattle.once_random.specs.Live.{is_live};
 ghost use Rattle.once_random.specs.Numbers.{all_below, count_below};
-ghost use Rattle.once_random.specs.Sets.{Counts, Marks, is_in};
+ghost use Rattle.bit_rows.specs.Sets.{Marks, is_in};
+ghost use Rattle.once_random.specs.Numbers.{Counts};
 
 use expr_table::Instance;
 

@@ -12,7 +12,6 @@
 //! which is made once for an instance.
 #![tactic(auto)]
 
-mod bit_row;
 mod bounds;
 mod cutting;
 mod engine;
@@ -25,7 +24,6 @@ mod parents;
 mod roots;
 mod scratch;
 
-pub use bit_row::BitRow;
 pub use bounds::bound;
 pub use engine::{chain, is_proved, leaves_within};
 pub use expr_table::NoMemory;

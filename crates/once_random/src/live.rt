@@ -3,7 +3,7 @@ ghost use Rattle.std.specs.Prelude.{◌≡◌, ◌<◌, ◌||◌, ℕ, List, IsT
 ghost use Rattle.expr_table.specs.Table.{has, sides};
 ghost use Rattle.once_random.specs.Cutting.{AreWithin, HasRows, IsShownLive, KeepsSets, Shows, cuts_of};
 ghost use Rattle.once_random.specs.Live.{is_live};
-ghost use Rattle.once_random.specs.Sets.{Marks, is_in};
+ghost use Rattle.bit_rows.specs.Sets.{Marks, is_in};
 
 use crate::cutting::Cutting;
 use crate::roots::mark_rows;

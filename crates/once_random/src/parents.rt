@@ -3,7 +3,8 @@ ghost use Rattle.std.specs.Prelude.{◌≡◌, ◌<◌, ◌+◌, ◌^◌, ℕ, L
 ghost use Rattle.expr_table.specs.Table.{has, sides};
 ghost use Rattle.once_random.specs.Cutting.{HasRows, IsShownLive, IsSwept, KeepsSets, Shows, live_parents};
 ghost use Rattle.once_random.specs.Live.{is_live};
-ghost use Rattle.once_random.specs.Sets.{Counts, Marks};
+ghost use Rattle.bit_rows.specs.Sets.{Marks};
+ghost use Rattle.once_random.specs.Numbers.{Counts};
 
 use crate::cutting::Cutting;
 use expr_table::{ExprTable, Node, Row};

@@ -4,10 +4,10 @@ ghost use Rattle.expr_table.specs.declared.node.Row.{Row};
 ghost use Rattle.expr_table.specs.Table.{has, numbers};
 ghost use Rattle.expr_table.specs.Instance.{IsFitting};
 ghost use Rattle.once_random.specs.Cutting.{HasRows};
-ghost use Rattle.once_random.specs.Sets.{Marks, is_in, members};
+ghost use Rattle.bit_rows.specs.Sets.{Marks, is_in, members};
 ghost use Rattle.once_random.specs.Tuples.{roots_of};
 
-use crate::bit_row::BitRow;
+use bit_rows::BitRow;
 use crate::cutting::Cutting;
 use expr_table::{Instance, Row};
 

@@ -2,7 +2,7 @@ use Rattle.std.proofs.Common.{◌≡◌, ◌∷◌, [], List, Bool, true, false,
 use Rattle.std.specs.Prelude.{replicate}
 use Rattle.std.specs.Result.{IfOk}
 use Rattle.std.proofs.lemmas.List.{length-replicate}
-use Rattle.once_random.specs.Sets.{members, members_below}
+use Rattle.bit_rows.specs.Sets.{members, members_below}
 use Rattle.once_random.specs.Tuples.{is_proved}
 use Rattle.maskverif_cli.proofs.Singles.{members-alone, set-back}
 use Rattle.maskverif_cli.proofs.decide.is_probe_proved.Goals as goal

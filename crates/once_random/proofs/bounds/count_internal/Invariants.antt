@@ -1,5 +1,5 @@
 use Rattle.std.proofs.Common.{◌≡◌, ◌≤◌}
-use Rattle.once_random.specs.Sets.{members_below}
+use Rattle.bit_rows.specs.Sets.{members_below}
 use Rattle.once_random.specs.Tuples.{internal_probes}
 use Rattle.once_random.proofs.bounds.count_internal.Given as goal
 

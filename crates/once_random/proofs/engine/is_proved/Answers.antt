@@ -4,7 +4,7 @@ use Rattle.once_random.specs.Cuts.{least_chain}
 use Rattle.once_random.specs.Cutting.{cuts_of}
 use Rattle.once_random.specs.Groups.{is_within}
 use Rattle.once_random.specs.Provable.{is_provable}
-use Rattle.once_random.specs.Sets.{members}
+use Rattle.bit_rows.specs.Sets.{members}
 use Rattle.once_random.specs.Tuples.{is_proved, roots_of}
 use Rattle.once_random.proofs.engine.is_proved.Goals as goal
 

@@ -2,7 +2,7 @@ use Rattle.std.proofs.Common.{◌≡◌, ◌-◌, ◌<◌, suc, length, sym, ap,
 use Rattle.once_random.proofs.Sides.{sides_before, node_read}
 use Rattle.once_random.proofs.Marking.{IsHalfway, marked, unmarked, begun, done}
 use Rattle.expr_table.specs.Table.{sides, has, node_at}
-use Rattle.once_random.specs.Sets.{is_in}
+use Rattle.bit_rows.specs.Sets.{is_in}
 use Rattle.once_random.proofs.live.read_on.Goals as goal
 
 pub mark_sides-requires : goal.mark_sides-requires

@@ -1,6 +1,6 @@
 use Rattle.std.proofs.Common.{List, ℕ}
 use Rattle.expr_table.specs.Table.{has}
-use Rattle.once_random.specs.Sets.{Marks}
+use Rattle.bit_rows.specs.Sets.{Marks}
 use Rattle.once_random.proofs.Marking.{IsHalfway}
 use Rattle.once_random.proofs.live.read_on.Given as goal
 

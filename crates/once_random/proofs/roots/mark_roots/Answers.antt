@@ -2,7 +2,7 @@ use Rattle.std.proofs.Common.{◌≡◌, ◌+◌, ◌<◌, List, length, get_or,
 use Rattle.expr_table.specs.declared.instance.ProbeRoots.{ProbeRoots}
 use Rattle.expr_table.specs.declared.node.Row.{Row}
 use Rattle.expr_table.specs.Table.{has, numbers}
-use Rattle.once_random.specs.Sets.{is_in, Marks, members_below}
+use Rattle.bit_rows.specs.Sets.{is_in, Marks, members_below}
 use Rattle.once_random.specs.Tuples.{roots_of}
 use Rattle.once_random.proofs.RootRows.{rows_within, one_more_probe, no_more_probe}
 use Rattle.once_random.proofs.roots.mark_roots.Goals as goal

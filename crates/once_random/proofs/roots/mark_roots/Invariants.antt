@@ -1,5 +1,5 @@
 use Rattle.expr_table.specs.Table.{has}
-use Rattle.once_random.specs.Sets.{Marks, members_below}
+use Rattle.bit_rows.specs.Sets.{Marks, members_below}
 use Rattle.once_random.specs.Tuples.{roots_of}
 use Rattle.once_random.proofs.roots.mark_roots.Given as goal
 

@@ -1,6 +1,6 @@
 use Rattle.std.proofs.Common.{◌≡◌, ◌<◌, ◌||◌, ℕ, length, take}
 use Rattle.expr_table.specs.Table.{has, numbers}
-use Rattle.once_random.specs.Sets.{is_in}
+use Rattle.bit_rows.specs.Sets.{is_in}
 use Rattle.once_random.proofs.roots.mark_rows.Given as goal
 
 -- the rows so far are marked

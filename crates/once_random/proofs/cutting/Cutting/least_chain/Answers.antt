@@ -4,7 +4,7 @@ use Rattle.expr_table.specs.declared.node.Row.{Row}
 use Rattle.expr_table.specs.Table.{has}
 use Rattle.once_random.specs.Cuts.{least_after, least_chain}
 use Rattle.once_random.specs.Cutting.{Shows, cuts_of}
-use Rattle.once_random.specs.Sets.{Marks}
+use Rattle.bit_rows.specs.Sets.{Marks}
 use Rattle.once_random.proofs.Chains.{least_after-none, least_after-some, latest_first}
 use Rattle.once_random.proofs.Shown.{Shows-kept}
 use Rattle.once_random.proofs.cutting.Cutting.least_chain.Goals as goal

@@ -2,7 +2,7 @@ use Rattle.std.proofs.Common.{◌≡◌, ◌-◌, List, ℕ, length}
 use Rattle.expr_table.specs.Table.{has}
 use Rattle.once_random.specs.Cuts.{least_after, least_chain}
 use Rattle.once_random.specs.Cutting.{AreWithin, HasRows, Shows, cuts_of}
-use Rattle.once_random.specs.Sets.{Marks}
+use Rattle.bit_rows.specs.Sets.{Marks}
 use Rattle.once_random.proofs.cutting.Cutting.least_chain.Given as goal
 
 -- the cuts so far, and the least ones after them, are the least chain

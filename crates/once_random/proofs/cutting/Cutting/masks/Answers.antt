@@ -1,6 +1,6 @@
 use Rattle.std.proofs.Common.{◌≡◌, arith, ap, ◌∙◌, ◌&&◌, ◌||◌, not, ◌==◌, false, slice_index_or}
 use Rattle.std.proofs.lemmas.List.{get_or_read}
-use Rattle.once_random.specs.Sets.{is_in}
+use Rattle.bit_rows.specs.Sets.{is_in}
 use Rattle.once_random.proofs.Sides.{node_read}
 use Rattle.once_random.proofs.Shown.{masks_shown}
 use Rattle.once_random.proofs.cutting.Cutting.masks.Goals as goal
