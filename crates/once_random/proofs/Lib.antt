@@ -13,3 +13,4 @@ pub mod LeastChain
 pub mod Subsets
 pub mod Provable
 pub mod OneProbe
+pub mod Facts

@@ -1,8 +1,8 @@
 -- The set that holds one probe.
-use Rattle.std.proofs.Common.{◌≡◌, ◌≢◌, ℕ, suc, ◌<◌, true, false, List, [], ◌∷◌, ◌++◌, Bool, length, replicate, refl, sym, ap, ◌∙◌, arith, length-set}
+use Rattle.std.proofs.Common.{◌≡◌, ◌≢◌, ℕ, suc, ◌<◌, true, false, [], ◌∷◌, ◌++◌, Bool, length, replicate, ap, ◌∙◌, arith, length-set}
 use Rattle.std.specs.Prelude.{slice_set}
 use Rattle.std.proofs.lemmas.List.{length-replicate}
-use Rattle.bit_rows.specs.Sets.{is_in, members_below, members}
+use Rattle.bit_rows.specs.Sets.{is_in, members}
 use Rattle.bit_rows.proofs.Facts.{is_in-empty, is_in-set_same, is_in-set_other, members_below-in, members_below-none}
 
 -- the empty set with one number added holds that number alone

@@ -16,7 +16,7 @@ use Rattle.once_random.proofs.Alone.{all_below-at, all_below-from, count_none, s
 use Rattle.once_random.proofs.LiveRows.{IsEarlier, has-append, has-append_left, has-append_right}
 use Rattle.once_random.proofs.LeastChain.{count_mono, least_is_chain, least_is_saturated}
 use Rattle.once_random.proofs.Saturated.{least_live}
-use Rattle.once_random.proofs.Subsets.{chain-among, live-among, live-same, least_chain-same}
+use Rattle.once_random.proofs.Subsets.{chain-among, live-among, live-same_rows, least_chain-same_rows}
 
 all_has : (P : ℕ → Type 0) (xs : List ℕ) → All P xs → (r : ℕ) → has xs r ≡ true → P r
 all_has P [] all r h = absurd (true≢false (sym h))
@@ -109,12 +109,12 @@ module _ (x : Instance) (some roots : List ℕ) (m : ℕ) (among : AreAmong some
   provable-among is = record { cuts = is.cuts; chain = chain-among x.table.nodes some roots among is.cuts is.chain; within = within-among is.cuts is.within }
 
 -- and for roots that are the same as a set
-pub provable-same : (x : Instance) (roots others : List ℕ) (m : ℕ) → AreSameRows roots others → is_provable x roots m ≡ is_provable x others m
+pub provable-same_rows : (x : Instance) (roots others : List ℕ) (m : ℕ) → AreSameRows roots others → is_provable x roots m ≡ is_provable x others m
 unfolding is_provable
-provable-same x roots others m same =
+provable-same_rows x roots others m same =
     within_same x roots (least_chain x.table.nodes roots) others (least_chain x.table.nodes roots) m
-    (live-same x.table.nodes roots others same (least_chain x.table.nodes roots) (least_chain x.table.nodes roots) (same_self (least_chain x.table.nodes roots)))
-    ∙ ap (λ cuts. is_within x others cuts m) (least_chain-same x.table.nodes roots others same)
+    (live-same_rows x.table.nodes roots others same (least_chain x.table.nodes roots) (least_chain x.table.nodes roots) (same_self (least_chain x.table.nodes roots)))
+    ∙ ap (λ cuts. is_within x others cuts m) (least_chain-same_rows x.table.nodes roots others same)
 
 -- the leaf is of no group past the last
 no_group : (group n : ℕ) (leaf : Option ℕ) → n ≤ group → IfSome leaf (λ secret. secret < n) → is_group group leaf ≡ false

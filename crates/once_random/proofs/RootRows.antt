@@ -20,7 +20,7 @@ rows_within probes n all p probe lt is k d l =
     let l' : k < length (numbers probe.rows) = omega (arith, length-map probe.rows (λ (row : Row). row.0)) in
     subst (λ i. i < n) (get_or-map (λ (row : Row). row.0) probe.rows k d d.0 l) (here k d.0 l')
 
-roots_of-append : (x : Instance) (ps qs : List ℕ) → roots_of x (ps ++ qs) ≡ roots_of x ps ++ roots_of x qs
+pub roots_of-append : (x : Instance) (ps qs : List ℕ) → roots_of x (ps ++ qs) ≡ roots_of x ps ++ roots_of x qs
 roots_of-append x [] qs = refl
 roots_of-append x (p ∷ ps) qs = ap (λ rows. rows_of (probe_at x.probes p) ++ rows) (roots_of-append x ps qs) ∙ sym (append_assoc (rows_of (probe_at x.probes p)) (roots_of x ps) (roots_of x qs))
 

@@ -1,5 +1,5 @@
 -- What depends on the roots and the cuts as sets alone, and what only shrinks where there are fewer roots.
-use Rattle.std.proofs.Common.{◌≡◌, ℕ, zero, suc, Bool, true, false, not, ◌&&◌, ◌||◌, ◌==◌, cond, List, [], ◌∷◌, ◌++◌, length, refl, sym, ap, ◌∙◌, subst, true≢false, ⊎_elim}
+use Rattle.std.proofs.Common.{◌≡◌, ℕ, zero, suc, true, not, ◌&&◌, ◌||◌, ◌==◌, List, [], ◌∷◌, length, refl, sym, ap, ◌∙◌, subst, true≢false, ⊎_elim}
 use Rattle.std.specs.Option.{option_map_or}
 use Rattle.std.proofs.lemmas.Bool.{cases_Bool, cond-true, cond-false, and_parts, and_from, or_cases, or_left, or_right, not-true, both_ways}
 use Rattle.expr_table.specs.declared.node.Node.{Node}
@@ -88,27 +88,27 @@ chain-among nodes some roots among (e ∷ cuts) chain =
     (allowed-among nodes cuts cuts (same_self cuts) some roots among e chain.0, chain-among nodes some roots among cuts chain.1)
 
 module _ (nodes : List Node) (roots others : List ℕ) (same : AreSameRows roots others) where
-  pub live-same : (cuts more : List ℕ) → AreSameRows cuts more → (row : ℕ) → is_live nodes roots cuts row ≡ is_live nodes others more row
-  live-same cuts more same_cuts row =
+  pub live-same_rows : (cuts more : List ℕ) → AreSameRows cuts more → (row : ℕ) → is_live nodes roots cuts row ≡ is_live nodes others more row
+  live-same_rows cuts more same_cuts row =
       same_tests _ _ (live-among nodes cuts more same_cuts roots others (among_same roots others same) row)
       (live-among nodes more cuts (same_turned cuts more same_cuts) others roots (among_same others roots (same_turned roots others same)) row)
 
-  allowed-same : (cuts more : List ℕ) → AreSameRows cuts more → (e : ℕ) → is_allowed nodes roots cuts e ≡ is_allowed nodes others more e
-  allowed-same cuts more same_cuts e =
+  allowed-same_rows : (cuts more : List ℕ) → AreSameRows cuts more → (e : ℕ) → is_allowed nodes roots cuts e ≡ is_allowed nodes others more e
+  allowed-same_rows cuts more same_cuts e =
       same_tests _ _ (allowed-among nodes more cuts (same_turned cuts more same_cuts) others roots (among_same others roots (same_turned roots others same)) e)
       (allowed-among nodes cuts more same_cuts roots others (among_same roots others same) e)
 
-  pub may_be_cut-same : (cuts more : List ℕ) → AreSameRows cuts more → (e : ℕ) → may_be_cut nodes roots cuts e ≡ may_be_cut nodes others more e
-  may_be_cut-same cuts more same_cuts e = λ i. live-same cuts more same_cuts e i && allowed-same cuts more same_cuts e i
+  pub may_be_cut-same_rows : (cuts more : List ℕ) → AreSameRows cuts more → (e : ℕ) → may_be_cut nodes roots cuts e ≡ may_be_cut nodes others more e
+  may_be_cut-same_rows cuts more same_cuts e = λ i. live-same_rows cuts more same_cuts e i && allowed-same_rows cuts more same_cuts e i
 
-  next_cut-same : (cuts : List ℕ) → next_cut nodes roots cuts ≡ next_cut nodes others cuts
+  next_cut-same_rows : (cuts : List ℕ) → next_cut nodes roots cuts ≡ next_cut nodes others cuts
   unfolding next_cut
-  next_cut-same cuts = ap (least_below (length nodes)) (λ i e. may_be_cut-same cuts cuts (same_self cuts) e i)
+  next_cut-same_rows cuts = ap (least_below (length nodes)) (λ i e. may_be_cut-same_rows cuts cuts (same_self cuts) e i)
 
-  least_after-same : (n : ℕ) (cuts : List ℕ) → least_after nodes roots n cuts ≡ least_after nodes others n cuts
-  least_after-same zero cuts = refl
-  least_after-same (suc n) cuts = λ i. option_map_or (λ e. least_after-same n (e ∷ cuts) i) (next_cut-same cuts i) cuts
+  least_after-same_rows : (n : ℕ) (cuts : List ℕ) → least_after nodes roots n cuts ≡ least_after nodes others n cuts
+  least_after-same_rows zero cuts = refl
+  least_after-same_rows (suc n) cuts = λ i. option_map_or (λ e. least_after-same_rows n (e ∷ cuts) i) (next_cut-same_rows cuts i) cuts
 
-  pub least_chain-same : least_chain nodes roots ≡ least_chain nodes others
+  pub least_chain-same_rows : least_chain nodes roots ≡ least_chain nodes others
   unfolding least_chain
-  least_chain-same = least_after-same (length nodes) []
+  least_chain-same_rows = least_after-same_rows (length nodes) []

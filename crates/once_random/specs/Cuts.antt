@@ -1,6 +1,7 @@
 -- Cuts: a row that adds a random used nowhere else is as good as that random, and is read no further (optimistic
 -- sampling; Barthe et al., EUROCRYPT 2015). Lists of cuts have the latest cut first.
-use Rattle.std.specs.Prelude.{ℕ, ◌==◌, zero, suc, Bool, true, false, not, ◌&&◌, ◌||◌, IsTrue, IsFalse, List, [], ◌∷◌, length, Option}
+use Rattle.std.specs.Prelude.{ℕ, ◌==◌, zero, suc, Bool, true, false, not, ◌&&◌, ◌||◌, IsTrue, IsFalse}
+use Rattle.std.specs.Prelude.{List, [], ◌∷◌, length, Option}
 use Rattle.std.specs.Option.{option_map_or}
 use Rattle.expr_table.specs.declared.node.Node.{Node}
 use Rattle.expr_table.specs.declared.node.Node.TheVariants as node
@@ -19,11 +20,13 @@ is_fresh nodes cuts row = is_random (node_at nodes row) || has cuts row
 
 -- no row but e is a live parent of the row
 abbrev pub has_no_parent_but : List Node → List ℕ → List ℕ → ℕ → ℕ → Bool
-has_no_parent_but nodes roots cuts e row = all_below (length nodes) (λ p. p == e || not (is_live_parent nodes roots cuts row p))
+has_no_parent_but nodes roots cuts e row =
+    all_below (length nodes) (λ p. p == e || not (is_live_parent nodes roots cuts row p))
 
 -- the side masks e: it is fresh, is no root, and has no live parent other than e
 abbrev pub masks : List Node → List ℕ → List ℕ → ℕ → ℕ → Bool
-masks nodes roots cuts e side = is_fresh nodes cuts side && (not (has roots side) && has_no_parent_but nodes roots cuts e side)
+masks nodes roots cuts e side =
+    is_fresh nodes cuts side && (not (has roots side) && has_no_parent_but nodes roots cuts e side)
 
 -- e has this node, which is an Xor, and one of its sides masks e
 abbrev pub is_masked : List Node → List ℕ → List ℕ → ℕ → Node → Bool
@@ -54,7 +57,8 @@ next_cut nodes roots cuts = least_below (length nodes) (may_be_cut nodes roots c
 -- at most n further cuts, each of the live row of least number that may be cut
 abbrev pub least_after : List Node → List ℕ → ℕ → List ℕ → List ℕ
 least_after nodes roots zero cuts = cuts
-least_after nodes roots (suc n) cuts = option_map_or (λ e. least_after nodes roots n (e ∷ cuts)) (next_cut nodes roots cuts) cuts
+least_after nodes roots (suc n) cuts =
+    option_map_or (λ e. least_after nodes roots n (e ∷ cuts)) (next_cut nodes roots cuts) cuts
 
 -- The least chain: as long as one is allowed, it cuts the live row of least number that may be cut. No row is
 -- cut twice, so there are no more cuts than rows.

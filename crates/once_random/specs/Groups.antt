@@ -15,8 +15,10 @@ is_in_group groups group i = is_group group (slice_index_or groups i None)
 
 -- how many input leaves of the group are live; input leaf i has row 2 + i
 abbrev pub live_leaves : Instance → List ℕ → List ℕ → ℕ → ℕ
-live_leaves x roots cuts group = count_below x.table.inputs (λ i. is_in_group x.groups group i && is_live x.table.nodes roots cuts (2 + i))
+live_leaves x roots cuts group =
+    count_below x.table.inputs (λ i. is_in_group x.groups group i && is_live x.table.nodes roots cuts (2 + i))
 
--- Each group has at most `bound` live input leaves. A fitting instance numbers its groups below its number of input leaves.
+-- Each group has at most m live input leaves. A fitting instance numbers its groups below its number of input leaves, so
+-- by the law `within_is_each_group` these are all groups.
 unfoldable pub is_within : Instance → List ℕ → List ℕ → ℕ → Bool
-is_within x roots cuts bound = all_below x.table.inputs (λ group. nat_le (live_leaves x roots cuts group) bound)
+is_within x roots cuts m = all_below x.table.inputs (λ group. nat_le (live_leaves x roots cuts group) m)

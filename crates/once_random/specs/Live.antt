@@ -4,11 +4,13 @@ use Rattle.std.specs.Prelude.{ℕ, zero, suc, ◌<◌, ◌≡◌, Bool, not, ◌
 use Rattle.expr_table.specs.declared.node.Node.{Node}
 use Rattle.expr_table.specs.Table.{node_at, sides, has}
 
--- What is reached from the rows wanted, over the rows below n, from the last to the first; a row that is cut leads no further.
+-- What is reached from the rows wanted, over the rows below n, from the last to the first; a row that is cut leads no
+-- further.
 abbrev pub reached : List Node → List ℕ → ℕ → List ℕ → List ℕ
 reached nodes cuts zero wanted = wanted
 reached nodes cuts (suc row) wanted =
-    reached nodes cuts row (if has wanted row && not (has cuts row) then sides (node_at nodes row) ++ wanted else wanted)
+    reached nodes cuts row
+    (if has wanted row && not (has cuts row) then sides (node_at nodes row) ++ wanted else wanted)
 
 -- The row is live: it is one of the least set that holds the roots and both sides of each And or Xor that
 -- it holds and that is not cut. The law `live_is_least` says that it is that set.
@@ -27,10 +29,12 @@ AreAmong rows others = (row : ℕ) → IsTrue (has rows row) → IsTrue (has oth
 abbrev pub AreSameRows : List ℕ → List ℕ → Type 0
 AreSameRows rows others = (row : ℕ) → has rows row ≡ has others row
 
--- The set holds the roots and both sides of each And or Xor that it holds and that is not cut. Other nodes have no sides.
+-- The set holds the roots and both sides of each And or Xor that it holds and that is not cut. Other nodes have no
+-- sides.
 pub record IsClosed (nodes : List Node) (roots cuts : List ℕ) (holds : ℕ → Bool) : Type 0 where
   pub each_root : (row : ℕ) → IsTrue (has roots row) → IsTrue (holds row)
-  pub each_side : (row side : ℕ) → IsTrue (holds row) → IsTrue (not (has cuts row)) → IsTrue (has (sides (node_at nodes row)) side) → IsTrue (holds side)
+  pub each_side : (row side : ℕ) → IsTrue (holds row) → IsTrue (not (has cuts row))
+      → IsTrue (has (sides (node_at nodes row)) side) → IsTrue (holds side)
 
 -- the live rows are such a set, and each such set holds each live row
 pub record IsLeastClosed (nodes : List Node) (roots cuts : List ℕ) (holds : ℕ → Bool) : Type 0 where

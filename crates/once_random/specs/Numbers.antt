@@ -1,6 +1,6 @@
 -- The numbers below a number that pass a test, and lists of counts.
-use Rattle.std.specs.Prelude.{ℕ, zero, suc, ◌+◌, ◌<◌, ◌≡◌, Bool, true, ◌&&◌, if◌then◌else◌, Option, None, Some, List, length}
-use Rattle.std.specs.Prelude.{slice_index_or}
+use Rattle.std.specs.Prelude.{ℕ, zero, suc, ◌+◌, ◌<◌, ◌≡◌, Bool, true, ◌&&◌, if◌then◌else◌}
+use Rattle.std.specs.Prelude.{Option, None, Some, List, length, slice_index_or}
 use Rattle.std.specs.Option.{option_or}
 
 -- each number below n passes

@@ -1,5 +1,6 @@
 -- Tuples of probes, their roots and bounds, and when they are proved. A tuple is a list of probe numbers.
-use Rattle.std.specs.Prelude.{ℕ, Bool, not, List, [], ◌∷◌, ◌++◌, map, length, count_by, find, Option, slice_index_or, false}
+use Rattle.std.specs.Prelude.{ℕ, Bool, false, not, List, [], ◌∷◌, ◌++◌, map, length, count_by, find, Option}
+use Rattle.std.specs.Prelude.{slice_index_or}
 use Rattle.std.specs.List.{range_with_len}
 use Rattle.expr_table.specs.declared.instance.Instance.{Instance}
 use Rattle.expr_table.specs.declared.instance.Notion.{Notion}

@@ -8,10 +8,10 @@ ghost use Rattle.bit_rows.specs.Sets.{members};
 ghost use Rattle.once_random.specs.Tuples.{is_proved, roots_of};
 
 use crate::NoMemory;
-use bit_rows::BitRow;
 use crate::bounds::bound;
 use crate::leaves::leaves_are_within;
 use crate::scratch::Scratch;
+use bit_rows::BitRow;
 use expr_table::{Instance, Row};
 use std::alloc::Global;
 

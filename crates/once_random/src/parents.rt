@@ -13,8 +13,8 @@ use expr_table::{ExprTable, Node, Row};
 fn count_sides(node: Node, parents: &mut [u32])
     requires within { (side : ℕ) → IsTrue (has (sides node) side) → side < length parents.old }
     requires room { (side : ℕ) → IsTrue (has (sides node) side) → slice_index_or parents.old side 0 + 1 < 2 ^ 32 }
-    ensures { (row : ℕ) → row < length parents.old
-        → slice_index_or parents.new row 0 ≡ slice_index_or parents.old row 0 + (if has (sides node) row then 1 else 0) }
+    ensures { (row : ℕ) → row < length parents.old → slice_index_or parents.new row 0
+        ≡ slice_index_or parents.old row 0 + (if has (sides node) row then 1 else 0) }
 {
     match node {
         Node::And(a, b) | Node::Xor(a, b) => {

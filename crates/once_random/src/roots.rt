@@ -7,8 +7,8 @@ ghost use Rattle.once_random.specs.Cutting.{HasRows};
 ghost use Rattle.bit_rows.specs.Sets.{Marks, is_in, members};
 ghost use Rattle.once_random.specs.Tuples.{roots_of};
 
-use bit_rows::BitRow;
 use crate::cutting::Cutting;
+use bit_rows::BitRow;
 use expr_table::{Instance, Row};
 
 /// Marks rows.

@@ -1,9 +1,10 @@
+//! The probes of a refresh, decided.
 ghost use Rattle.std.specs.Prelude.{◌≡◌, ◌<◌, ℕ, List, [], ◌∷◌, All, IfOk, length};
 ghost use Rattle.expr_table.specs.declared.node.Row.{Row};
 ghost use Rattle.expr_table.specs.Instance.{IsFitting, rows_of};
 
 use super::*;
-use expr_table::{Notion, ProbeRoots};
+use expr_table::{ExprTable, Notion, ProbeRoots};
 use sequences::Sequence;
 use std::process::Abort;
 use std::test::Fail;
@@ -22,7 +23,8 @@ fn probe_of(alloc: Global, row: Row) -> Result<ProbeRoots, NoMemory>
 /// A probe for each row.
 fn probes_of(alloc: Global, rows: &[Row]) -> Result<Vec<ProbeRoots>, NoMemory>
     ensures long { IfOk result (λ probes. length probes.items ≡ length rows.now) }
-    ensures within { IfOk result (λ probes. (n : ℕ) → All (λ (row : Row). row.0 < n) rows.now → All (λ probe. All (λ row. row < n) (rows_of probe)) probes.items) }
+    ensures within { IfOk result (λ probes. (n : ℕ) → All (λ (row : Row). row.0 < n) rows.now
+        → All (λ probe. All (λ row. row < n) (rows_of probe)) probes.items) }
 {
     let mut probes = Vec::new(alloc);
     for row in rows {

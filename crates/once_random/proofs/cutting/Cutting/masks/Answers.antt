@@ -1,4 +1,4 @@
-use Rattle.std.proofs.Common.{◌≡◌, arith, ap, ◌∙◌, ◌&&◌, ◌||◌, not, ◌==◌, false, slice_index_or}
+use Rattle.std.proofs.Common.{◌≡◌, arith, ◌∙◌, ◌&&◌, ◌||◌, not, ◌==◌, false, slice_index_or}
 use Rattle.std.proofs.lemmas.List.{get_or_read}
 use Rattle.bit_rows.specs.Sets.{is_in}
 use Rattle.once_random.proofs.Sides.{node_read}
