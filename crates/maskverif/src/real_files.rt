@@ -1,4 +1,6 @@
-use crate::retry::{TRIES, counted, read_some, write_some};
+//! The files of the process.
+
+use crate::retry::{MOST_TRIES, counted, read_some, write_some};
 use mv_files::{Failed, Files};
 use std::fs;
 use std::io::{self, ErrorKind};
@@ -27,9 +29,10 @@ impl<'a, R: std::rt::Files> RealFiles<'a, R> {
     }
 }
 
-/// Opens a file for reading; `None` where there is none of the name.
+/// Opens a file for reading; `None` where there is none of the name. Over the files of the process std itself tries an
+/// open again, for as long as it is interrupted, so the tries here bound nothing there.
 fn open<R: std::rt::Files>(rt: &R, name: &str) -> io::Result<Option<R::File>> {
-    for _ in 0..TRIES {
+    for _ in 0..MOST_TRIES {
         match fs::open(rt, name) {
             Ok(file) => return Ok(Some(file)),
             Err(error) => match error.kind() {
@@ -42,9 +45,9 @@ fn open<R: std::rt::Files>(rt: &R, name: &str) -> io::Result<Option<R::File>> {
     Err(io::Error::from(ErrorKind::Interrupted))
 }
 
-/// Makes an empty file and opens it for writing.
+/// Makes an empty file and opens it for writing. What is said of [`open`] holds here too.
 fn create<R: std::rt::Files>(rt: &R, name: &str) -> io::Result<R::File> {
-    for _ in 0..TRIES {
+    for _ in 0..MOST_TRIES {
         match fs::create(rt, name) {
             Err(error) if error.kind() == ErrorKind::Interrupted => {}
             done => return done,

@@ -1,3 +1,5 @@
+//! Standard output.
+
 use crate::retry::{counted, write_some};
 use mv_files::{Failed, Sink};
 use std::io;

@@ -1,86 +1,64 @@
 -- The parts of the instance, put together.
-use Rattle.std.proofs.Common.{◌≡◌, ℕ, zero, suc, ◌+◌, ◌<◌, ◌≤◌, cond, List, [], ◌∷◌, ◌++◌, length, map, refl, sym, ap, ◌∙◌, subst, arith, ⊎_elim, length-append}
+use Rattle.std.proofs.Common.{◌≡◌, ℕ, zero, suc, ◌+◌, ◌<◌, ◌≤◌, cond, List, [], ◌∷◌, ◌++◌, length, map, refl, sym, ap, subst, arith, ⊎_elim, length-append}
 use Rattle.std.proofs.lemmas.Bool.{cases_Bool}
 use Rattle.std.specs.List.{AllZip, All, list_any}
 use Rattle.std.specs.Option.{IfSome}
 use Rattle.std.specs.Str.{bytes_eq}
 use Rattle.expr_table.specs.declared.instance.ProbeRoots.{ProbeRoots}
 use Rattle.expr_table.specs.Instance.{rows_of}
-use Rattle.expr_table.specs.Term.{Term, is_same}
-use Rattle.expr_table.specs.Table.{Table, IsTable, IsRowOf, terms, term_at, place_of}
-use Rattle.expr_table.proofs.Order.{is_same-exact, is_same-equal}
-use Rattle.expr_table.proofs.Rows.{length-terms}
+use Rattle.expr_table.specs.Table.{Table, IsTable, terms, place_of}
+use Rattle.expr_table.proofs.Facts.{place_of-row}
 use Rattle.narrow_netlist.specs.declared.netlist.InputWire.{InputWire}
 use Rattle.narrow_netlist.specs.declared.netlist.Note.{Note}
 use Rattle.narrow_netlist.specs.declared.netlist.Note.TheVariants.{Random, Share}
 use Rattle.narrow_netlist.specs.declared.netlist.OutputWire.{OutputWire}
-use Rattle.maskverif_cli.specs.declared.signals.SignalRow.{SignalRow}
-use Rattle.maskverif_cli.specs.Standing.{Signal, is_output, groups_from, secrets_after, with_secret, with_name}
-use Rattle.maskverif_cli.specs.Building.{IsSignalRow, probe_on}
-
--- a term that stands in a list stands at its place
-place_of-at : (ts : List Term) (t : Term) (r : ℕ) → r < length ts → term_at ts r ≡ t → (place_of ts t < length ts) × (term_at ts (place_of ts t) ≡ t)
-place_of-at [] t r lt is = absurd (omega arith)
-place_of-at (s ∷ ss) t zero lt is =
-    let same = is_same-equal s t is in
-    subst (λ k. (k < length (s ∷ ss)) × (term_at (s ∷ ss) k ≡ t)) (sym (ap (λ b. cond b 0 (place_of ss t + 1)) same)) (omega arith, is)
-place_of-at (s ∷ ss) t (suc r) lt is =
-    ⊎_elim
-    (λ h. subst (λ k. (k < length (s ∷ ss)) × (term_at (s ∷ ss) k ≡ t)) (sym (ap (λ b. cond b 0 (place_of ss t + 1)) h)) (omega arith, is_same-exact s t h))
-    (λ h. let rest = place_of-at ss t r (omega arith) is in
-    let next : place_of ss t + 1 ≡ suc (place_of ss t) = omega arith in
-    subst (λ k. (k < length (s ∷ ss)) × (term_at (s ∷ ss) k ≡ t)) (sym (ap (λ b. cond b 0 (place_of ss t + 1)) h ∙ next)) (omega (arith, rest.0), rest.1))
-    (cases_Bool (is_same s t))
-
--- in a table a term has one row
-row-is : (t : Table) → IsTable t → (r : ℕ) (s : Term) → IsRowOf t.nodes r s → r ≡ place_of (terms t.nodes) s
-row-is t table r s is =
-    let at = place_of-at (terms t.nodes) s r (omega (arith, length-terms t.nodes, is.within)) is.term in
-    table.distinct r (place_of (terms t.nodes) s) is.within (omega (arith, length-terms t.nodes, at.0)) (is.term ∙ sym at.1)
+use Rattle.maskverif_cli.specs.declared.probed_wires.WireRow.{WireRow}
+use Rattle.maskverif_cli.specs.NetlistInstance.{ProbedWire, is_output, groups_from, secrets_after, with_secret, with_name}
+use Rattle.maskverif_cli.specs.Building.{IsWireRow, probe_on}
 
 module _ (t : Table) (table : IsTable t) (outputs : List OutputWire) where
-  pub roots-are : (rows : List SignalRow) (signals : List Signal) → AllZip (IsSignalRow t.nodes) rows signals
-      → map rows_of (map (probe_on outputs) rows) ≡ map (λ (signal : Signal). place_of (terms t.nodes) signal.term ∷ []) signals
+  pub roots-are : (rows : List WireRow) (wires : List ProbedWire) → AllZip (IsWireRow t.nodes) rows wires
+      → map rows_of (map (probe_on outputs) rows) ≡ map (λ (wire : ProbedWire). place_of (terms t.nodes) wire.term ∷ []) wires
   roots-are [] [] each = refl
-  roots-are (r ∷ rows) (s ∷ signals) each =
-      let here = row-is t table r.row.0 s.term each.0.is_row in
-      let rest = roots-are rows signals each.1 in
+  roots-are (r ∷ rows) (s ∷ wires) each =
+      let here = sym (place_of-row t table r.row.0 s.term each.0.is_row) in
+      let rest = roots-are rows wires each.1 in
       λ i. (here i ∷ []) ∷ rest i
-  roots-are [] (s ∷ signals) each = absurd each
+  roots-are [] (s ∷ wires) each = absurd each
   roots-are (r ∷ rows) [] each = absurd each
 
-  pub outputs-are : (rows : List SignalRow) (signals : List Signal) → AllZip (IsSignalRow t.nodes) rows signals
-      → map (λ (probe : ProbeRoots). probe.output) (map (probe_on outputs) rows) ≡ map (λ (signal : Signal). is_output outputs signal.name) signals
+  pub outputs-are : (rows : List WireRow) (wires : List ProbedWire) → AllZip (IsWireRow t.nodes) rows wires
+      → map (λ (probe : ProbeRoots). probe.output) (map (probe_on outputs) rows) ≡ map (λ (wire : ProbedWire). is_output outputs wire.name) wires
   outputs-are [] [] each = refl
-  outputs-are (r ∷ rows) (s ∷ signals) each =
+  outputs-are (r ∷ rows) (s ∷ wires) each =
       let here = ap (is_output outputs) each.0.name in
-      let rest = outputs-are rows signals each.1 in
+      let rest = outputs-are rows wires each.1 in
       λ i. here i ∷ rest i
-  outputs-are [] (s ∷ signals) each = absurd each
+  outputs-are [] (s ∷ wires) each = absurd each
   outputs-are (r ∷ rows) [] each = absurd each
 
-  pub names-are : (rows : List SignalRow) (signals : List Signal) → AllZip (IsSignalRow t.nodes) rows signals → map (λ (row : SignalRow). row.name) rows ≡ map (λ (signal : Signal). signal.name) signals
+  pub names-are : (rows : List WireRow) (wires : List ProbedWire) → AllZip (IsWireRow t.nodes) rows wires → map (λ (row : WireRow). row.name) rows ≡ map (λ (wire : ProbedWire). wire.name) wires
   names-are [] [] each = refl
-  names-are (r ∷ rows) (s ∷ signals) each = let here = each.0.name in let rest = names-are rows signals each.1 in λ i. here i ∷ rest i
-  names-are [] (s ∷ signals) each = absurd each
+  names-are (r ∷ rows) (s ∷ wires) each = let here = each.0.name in let rest = names-are rows wires each.1 in λ i. here i ∷ rest i
+  names-are [] (s ∷ wires) each = absurd each
   names-are (r ∷ rows) [] each = absurd each
 
   one-within : (row : ℕ) → row < length t.nodes → All (λ row. row < length t.nodes) (row ∷ [])
   one-within row within zero d lt = within
   one-within row within (suc k) d lt = absurd (omega arith)
 
-  pub roots-within : (rows : List SignalRow) (signals : List Signal) → AllZip (IsSignalRow t.nodes) rows signals
+  pub roots-within : (rows : List WireRow) (wires : List ProbedWire) → AllZip (IsWireRow t.nodes) rows wires
       → All (λ probe. All (λ row. row < length t.nodes) (rows_of probe)) (map (probe_on outputs) rows)
   roots-within [] [] each k d lt = absurd (omega arith)
-  roots-within (r ∷ rows) (s ∷ signals) each zero d lt = one-within r.row.0 each.0.is_row.within
-  roots-within (r ∷ rows) (s ∷ signals) each (suc k) d lt = roots-within rows signals each.1 k d (omega arith)
-  roots-within [] (s ∷ signals) each k d lt = absurd each
+  roots-within (r ∷ rows) (s ∷ wires) each zero d lt = one-within r.row.0 each.0.is_row.within
+  roots-within (r ∷ rows) (s ∷ wires) each (suc k) d lt = roots-within rows wires each.1 k d (omega arith)
+  roots-within [] (s ∷ wires) each k d lt = absurd each
   roots-within (r ∷ rows) [] each k d lt = absurd each
 
-  pub same-length : (rows : List SignalRow) (signals : List Signal) → AllZip (IsSignalRow t.nodes) rows signals → length rows ≡ length signals
+  pub same-length : (rows : List WireRow) (wires : List ProbedWire) → AllZip (IsWireRow t.nodes) rows wires → length rows ≡ length wires
   same-length [] [] each = refl
-  same-length (r ∷ rows) (s ∷ signals) each = ap suc (same-length rows signals each.1)
-  same-length [] (s ∷ signals) each = absurd each
+  same-length (r ∷ rows) (s ∷ wires) each = ap suc (same-length rows wires each.1)
+  same-length [] (s ∷ wires) each = absurd each
   same-length (r ∷ rows) [] each = absurd each
 
 pub length-groups : (first k : ℕ) → length (groups_from first k) ≡ k

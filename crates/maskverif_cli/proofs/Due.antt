@@ -5,11 +5,11 @@ use Rattle.std.specs.declared.string.String.{String}
 use Rattle.std.specs.declared.alloc.Global.{Global}
 use Rattle.mv_files.specs.Disk.{Disk, file_of, IsLonger, IsMissing}
 use Rattle.narrow_netlist.specs.declared.netlist.Netlist.{Netlist}
-use Rattle.narrow_netlist.specs.Narrow.{IsNarrow}
+use Rattle.narrow_netlist.specs.Narrow.{IsNarrow, most_bytes}
 use Rattle.maskverif_cli.specs.declared.status.Status.{Status}
 use Rattle.maskverif_cli.specs.declared.status.Status.TheVariants.{Secure, Unproved, Usage, Refused, NoFile, ReadFault, WriteFault, NoMemory}
 use Rattle.maskverif_cli.specs.Words.{AreTaken}
-use Rattle.maskverif_cli.specs.Answer.{IsDue, NamesNarrow, NamesNetlist, is_decided}
+use Rattle.maskverif_cli.specs.Answer.{IsDue, IsVerdict, NamesNarrow, NamesNetlist, is_answer, is_decided}
 use Rattle.maskverif_cli.proofs.Sizes.{not-empty}
 
 pub same-name : (words : List (String Global)) (name other : List ℕ) → AreTaken words name → AreTaken words other → name ≡ other
@@ -26,6 +26,17 @@ verdict-due words disk ReadFault text h = absurd h.verdict
 verdict-due words disk WriteFault text h = absurd h.verdict
 verdict-due words disk NoMemory text h = absurd h.verdict
 
+-- and it is no fault
+pub verdict-answer : (bytes : List ℕ) (status : Status) (text : List ℕ) → IsVerdict bytes status text → is_answer status ≡ true
+verdict-answer bytes Secure text h = refl
+verdict-answer bytes (Unproved tuple) text h = refl
+verdict-answer bytes (Refused why) text h = refl
+verdict-answer bytes Usage text h = absurd h
+verdict-answer bytes NoFile text h = absurd h
+verdict-answer bytes ReadFault text h = absurd h
+verdict-answer bytes WriteFault text h = absurd h
+verdict-answer bytes NoMemory text h = absurd h
+
 -- bytes that are no netlist's
 pub record NotNarrow (name : List ℕ) (disk : Option Disk) : Type 0 where
   pub bytes : List ℕ
@@ -33,7 +44,7 @@ pub record NotNarrow (name : List ℕ) (disk : Option Disk) : Type 0 where
   pub not_narrow : (netlist : Netlist) → IsNarrow bytes netlist → ⊥
 
 -- a file that is longer than a netlist's text
-pub too_long : (name : List ℕ) (disk : Option Disk) → IsLonger name disk 65536 → NotNarrow name disk
+pub too_long : (name : List ℕ) (disk : Option Disk) → IsLonger name disk most_bytes → NotNarrow name disk
 too_long name None h = record { bytes = []; there = tt; not_narrow = not-empty }
 too_long name (Some d) h = record { bytes = h.bytes; there = h.there; not_narrow = λ n narrow. absurd (omega (arith, h.longer, narrow.short)) }
 

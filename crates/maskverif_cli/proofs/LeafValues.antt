@@ -14,7 +14,7 @@ use Rattle.narrow_netlist.specs.declared.netlist.InputWire.{InputWire}
 use Rattle.narrow_netlist.specs.declared.netlist.ShareNote.{ShareNote}
 use Rattle.narrow_netlist.specs.declared.netlist.Note.{Note}
 use Rattle.narrow_netlist.specs.declared.netlist.Note.TheVariants.{Random, Share}
-use Rattle.maskverif_cli.specs.Standing.{secrets, secrets_after, with_name, with_secret, is_random_note, is_random_leaf, is_zero_share_of, random_number, secret_term, zero_share_term}
+use Rattle.maskverif_cli.specs.NetlistInstance.{secrets, secrets_after, with_name, with_secret, is_random_note, is_random_leaf, is_zero_share_of, random_number, secret_term, zero_share_term}
 use Rattle.expr_table.specs.Values.{bit, eval}
 use Rattle.maskverif_cli.specs.Values.{secret_bit, secret_bits, random_bits}
 

@@ -7,8 +7,9 @@ pub mod Assembled
 pub mod Singles
 pub mod Sizes
 pub mod Due
+pub mod Ending
 pub mod OneAnswer
 pub mod GateValues
 pub mod LeafValues
-pub mod SignalValues
+pub mod WireValues
 pub mod ShareValues

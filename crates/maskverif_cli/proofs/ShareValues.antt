@@ -11,8 +11,8 @@ use Rattle.narrow_netlist.specs.declared.netlist.Note.TheVariants.{Random, Share
 use Rattle.narrow_netlist.specs.declared.netlist.ShareNote.{ShareNote}
 use Rattle.narrow_netlist.specs.declared.netlist.ShareIndex.{ShareIndex}
 use Rattle.narrow_netlist.specs.declared.netlist.ShareIndex.TheVariants.{Zero, One}
-use Rattle.narrow_netlist.specs.Wiring.{AreDistinct, HasBothShares, is_index, input_shares, secrets, share_of}
-use Rattle.maskverif_cli.specs.Standing.{is_zero_share_of}
+use Rattle.narrow_netlist.specs.Wiring.{AreDistinct, HasBothShares, is_index, input_shares, secrets_with_share, share_of}
+use Rattle.maskverif_cli.specs.NetlistInstance.{is_zero_share_of}
 use Rattle.expr_table.specs.Values.{xor}
 use Rattle.maskverif_cli.specs.Values.{is_share_of, values_of, secret_bit}
 
@@ -107,15 +107,15 @@ module _ (s : List ℕ) where
 
   module _ (index : ShareIndex) where
     abbrev names : List InputWire → List (List ℕ)
-    names ws = secrets index (input_shares ws)
+    names ws = secrets_with_share index (input_shares ws)
 
     abbrev test : InputWire → Bool
     test w = is_at index s w.note
 
     -- a note adds no name, or the name that its test compares
     head : (note : Note) (notes : List ShareNote)
-        → ((secrets index (cons_option (share_of note) notes) ≡ secrets index notes) × (is_at index s note ≡ false))
-        ⊎ ((t : List ℕ) × (secrets index (cons_option (share_of note) notes) ≡ t ∷ secrets index notes) × (is_at index s note ≡ bytes_eq t s))
+        → ((secrets_with_share index (cons_option (share_of note) notes) ≡ secrets_with_share index notes) × (is_at index s note ≡ false))
+        ⊎ ((t : List ℕ) × (secrets_with_share index (cons_option (share_of note) notes) ≡ t ∷ secrets_with_share index notes) × (is_at index s note ≡ bytes_eq t s))
     head Random notes = inl (refl, refl)
     head (Share share) notes = ⊎_elim
         (λ yes. inr (
@@ -207,8 +207,8 @@ pub zero-share-there : (inputs : List InputWire) → HasBothShares (input_shares
 zero-share-there inputs shared place wire share lt at note one =
     let s = share.secret in
     let p : InputWire → Bool = λ w. is_zero_share_of s w.note in
-    let first : Contains (secrets One (input_shares inputs)) s = named s One inputs place wire lt (one-passes inputs place wire share at note one) in
-    let other : Contains (secrets Zero (input_shares inputs)) s = subst (Contains (secrets Zero (input_shares inputs))) first.2 (shared.one_has_zero first.0 s first.1) in
+    let first : Contains (secrets_with_share One (input_shares inputs)) s = named s One inputs place wire lt (one-passes inputs place wire share at note one) in
+    let other : Contains (secrets_with_share Zero (input_shares inputs)) s = subst (Contains (secrets_with_share Zero (input_shares inputs))) first.2 (shared.one_has_zero first.0 s first.1) in
     let within : position_or_len p inputs < length inputs = passes s Zero inputs other in
     (position_or_len p inputs, cond-true _ (Some (position_or_len p inputs)) None (lt-ltb (position_or_len p inputs) (length inputs) within))
 

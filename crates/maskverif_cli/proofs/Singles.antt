@@ -1,34 +1,8 @@
 -- Sets and lists of single probes.
-use Rattle.std.proofs.Common.{◌≡◌, ◌≢◌, ℕ, zero, suc, ◌+◌, ◌<◌, ◌≤◌, Bool, true, false, not, cond, List, [], ◌∷◌, ◌++◌, length, map, get_or, set, Option, Some, refl, sym, ap, ◌∙◌, arith, ⊎_elim, get_or-set_same, get_or-set_other}
+use Rattle.std.proofs.Common.{◌≡◌, ℕ, zero, suc, ◌+◌, ◌<◌, Bool, true, false, not, List, [], ◌∷◌, length, map, get_or, set, Option, Some, refl, sym, ap, ◌∙◌, arith}
 use Rattle.std.specs.Prelude.{replicate}
 use Rattle.std.specs.List.{find, range_with_len, slice_get}
-use Rattle.std.proofs.lemmas.Bool.{cases_eq, cond-true, cond-false}
-use Rattle.std.proofs.lemmas.List.{get_or-replicate, length-replicate}
-use Rattle.bit_rows.specs.Sets.{is_in, members_below}
-
-module _ (n p : ℕ) (lt : p < n) where
-  abbrev alone : List Bool
-  alone = set (replicate n false) p true
-
-  in-alone : is_in alone p ≡ true
-  in-alone = get_or-set_same (replicate n false) p true false (omega (arith, length-replicate n false))
-
-  not-in-alone : (i : ℕ) → i < n → p ≢ i → is_in alone i ≡ false
-  not-in-alone i below other = get_or-set_other (replicate n false) p i true false (λ e. other (sym e)) ∙ get_or-replicate n i false false below
-
-  none-below : (k : ℕ) → k ≤ p → members_below alone k ≡ []
-  none-below zero le = refl
-  none-below (suc k) le =
-      ap (λ b. members_below alone k ++ cond b (k ∷ []) []) (not-in-alone k (omega arith) (λ e. absurd (omega arith))) ∙ ap (λ l. l ++ []) (none-below k (omega arith))
-
-  pub members-alone : (k : ℕ) → p < k → k ≤ n → members_below alone k ≡ p ∷ []
-  members-alone zero above le = absurd (omega arith)
-  members-alone (suc k) above le =
-      ⊎_elim
-      (λ same. ap (λ b. members_below alone k ++ cond b (k ∷ []) []) (ap (is_in alone) (sym same) ∙ in-alone)
-      ∙ ap (λ l. l ++ k ∷ []) (none-below k (omega arith)) ∙ ap (λ i. i ∷ []) (sym same))
-      (λ other. ap (λ b. members_below alone k ++ cond b (k ∷ []) []) (not-in-alone k (omega arith) other) ∙ ap (λ l. l ++ []) (members-alone k (omega arith) (omega arith)))
-      (cases_eq p k)
+use Rattle.std.proofs.lemmas.Bool.{cond-true, cond-false}
 
 pub set-back : (n p : ℕ) (b : Bool) → set (set (replicate n b) p (not b)) p b ≡ replicate n b
 set-back zero zero b = refl

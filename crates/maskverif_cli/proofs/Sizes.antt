@@ -24,8 +24,8 @@ few-cells : (cells : List XorCell) → length cells ≤ length (flat_map cell_li
 few-cells [] = omega arith
 few-cells (c ∷ cells) = omega (arith, few-cells cells, length-append (cell_lines c) (flat_map cell_lines cells))
 
-pub few-signals : (bytes : List ℕ) (n : Netlist) → IsNarrow bytes n → length n.inputs + length n.cells ≤ 65535
-few-signals bytes n narrow =
+pub few-wires : (bytes : List ℕ) (n : Netlist) → IsNarrow bytes n → length n.inputs + length n.cells ≤ 65535
+few-wires bytes n narrow =
     let outputs = flat_map output_lines narrow.outputs in
     let inner = map Inner n.inner in
     let cells = flat_map cell_lines n.cells in

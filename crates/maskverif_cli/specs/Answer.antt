@@ -13,17 +13,17 @@ use Rattle.maskverif_cli.specs.declared.status.Status.{Status}
 use Rattle.maskverif_cli.specs.declared.status.Status.TheVariants.{Secure, Unproved, Usage, Refused, NoFile, ReadFault, WriteFault, NoMemory}
 use Rattle.maskverif_cli.specs.Words.{AreTaken}
 use Rattle.maskverif_cli.specs.Report.{usage_text, refused_report, secure_report, unproved_report}
-use Rattle.maskverif_cli.specs.Standing.{Signal, signals, StandsFor}
+use Rattle.maskverif_cli.specs.NetlistInstance.{ProbedWire, probed_wires, HasInstance}
 
 -- an identifier as it is printed: without a leading backslash
 abbrev pub printed : List ℕ → List ℕ
 printed [] = []
 printed (first ∷ rest) = if first == 92 then rest else first ∷ rest
 
--- the bytes are the text of this netlist, which stands for this instance
+-- the bytes are the text of this netlist, whose instance this is
 pub record Means (bytes : List ℕ) (n : Netlist) (x : Instance) : Type 0 where
   pub text : IsNarrow bytes n
-  pub instance : StandsFor n x
+  pub instance : HasInstance n x
 
 -- each tuple is proved, and this is the report on it
 pub record IsSecure (bytes text : List ℕ) : Type 0 where
@@ -45,7 +45,7 @@ pub record IsUnproved (bytes tuple text : List ℕ) : Type 0 where
   pub probe : ℕ
   pub single : tuple ≡ probe ∷ []
   pub name : List ℕ
-  pub named : slice_get (map (λ (signal : Signal). signal.name) (signals netlist)) probe ≡ Some name
+  pub named : slice_get (map (λ (wire : ProbedWire). wire.name) (probed_wires netlist)) probe ≡ Some name
   pub report : text ≡ unproved_report (length instance.probes) (length (tuples_of_one instance)) rank (printed name)
 
 -- the bytes are not the text of a netlist that is read, and this is the report on it
@@ -124,9 +124,9 @@ pub record Answers (words : List (String Global)) (disk : Option Disk) (old new 
   pub due : IsDue words disk status text
   pub written : WhereTold (Adds text) old new
 
--- a first part of the text that was due was written
+-- a first part of the text that was due was written, and not all of it
 pub record BreaksOff (words : List (String Global)) (disk : Option Disk) (old new : Option (List ℕ)) : Type 0 where
   pub status : Status
   pub text : List ℕ
   pub due : IsDue words disk status text
-  pub written : WhereTold (AddsPart text) old new
+  pub written : AddsPart text old new

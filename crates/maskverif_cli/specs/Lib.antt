@@ -2,7 +2,7 @@ pub mod Words
 pub mod Status
 pub mod Report
 pub mod Answer
-pub mod Standing
+pub mod Run
+pub mod NetlistInstance
 pub mod Building
-pub mod Laws
 pub mod Values

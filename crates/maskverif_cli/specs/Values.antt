@@ -1,4 +1,4 @@
--- What the terms mean: where wires have values that the gates follow, each signal's term has its wire's value.
+-- What the terms mean: where wires have values that the gates follow, each probed wire's term has the wire's value.
 use Rattle.std.specs.Prelude.{ℕ, ◌≡◌, Bool, false, List, map, filter, fold, All}
 use Rattle.std.specs.Str.{bytes_eq}
 use Rattle.expr_table.specs.Values.{xor, eval}
@@ -7,8 +7,7 @@ use Rattle.narrow_netlist.specs.declared.netlist.InputWire.{InputWire}
 use Rattle.narrow_netlist.specs.declared.netlist.XorCell.{XorCell}
 use Rattle.narrow_netlist.specs.declared.netlist.Note.{Note}
 use Rattle.narrow_netlist.specs.declared.netlist.Note.TheVariants as note
-use Rattle.narrow_netlist.specs.Narrow.{IsNarrow}
-use Rattle.maskverif_cli.specs.Standing.{Signal, signals, secrets, is_random_leaf}
+use Rattle.maskverif_cli.specs.NetlistInstance.{ProbedWire, secrets, is_random_leaf}
 
 -- each wire has the value that its name is given, and each gate drives its wire with the exclusive or of its sides
 abbrev pub Follows : Netlist → (List ℕ → Bool) → Type 0
@@ -34,9 +33,6 @@ secret_bits value inputs = map (secret_bit value inputs) (secrets inputs)
 abbrev pub random_bits : (List ℕ → Bool) → List InputWire → List Bool
 random_bits value inputs = values_of value (filter is_random_leaf inputs)
 
--- the signal's term has its wire's value
-abbrev pub HasValue : (List ℕ → Bool) → List InputWire → Signal → Type 0
-HasValue value inputs signal = eval (secret_bits value inputs) (random_bits value inputs) signal.term ≡ value signal.name
-
-abbrev pub TermsGiveValues : Type 0
-TermsGiveValues = (bytes : List ℕ) (netlist : Netlist) (value : List ℕ → Bool) → IsNarrow bytes netlist → Follows netlist value → All (HasValue value netlist.inputs) (signals netlist)
+-- the probed wire's term has its value
+abbrev pub HasValue : (List ℕ → Bool) → List InputWire → ProbedWire → Type 0
+HasValue value inputs wire = eval (secret_bits value inputs) (random_bits value inputs) wire.term ≡ value wire.name

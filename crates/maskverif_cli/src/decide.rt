@@ -1,3 +1,5 @@
+//! The decision: the first probe whose tuple is not proved.
+
 ghost use Rattle.std.specs.Prelude.{◌≡◌, ◌<◌, ◌∷◌, [], false, length, replicate, IfOk, IfSome};
 ghost use Rattle.std.specs.Option.{option_map};
 ghost use Rattle.expr_table.specs.Instance.{IsFitting};
@@ -5,7 +7,8 @@ ghost use Rattle.once_random.specs.Tuples.{is_proved, first_unproved, tuples_of_
 
 use bit_rows::BitRow;
 use expr_table::Instance;
-use once_random::{NoMemory, Scratch, is_proved};
+use once_random::{Scratch, is_proved};
+use sequences::NoMemory;
 use std::alloc::Global;
 
 /// Whether the tuple of one probe is proved. The set of probes is empty before and after.
@@ -33,7 +36,8 @@ fn is_probe_proved(
 /// The first probe whose tuple is not proved, of the tuples of one probe.
 pub fn first_unproved(alloc: Global, instance: &Instance) -> Result<Option<u32>, NoMemory>
     requires { IsFitting instance.now }
-    ensures first { IfOk result (λ found. option_map (λ probe. probe ∷ []) found ≡ first_unproved instance.now (tuples_of_one instance.now)) }
+    ensures first { IfOk result (λ found. option_map (λ probe. probe ∷ []) found
+        ≡ first_unproved instance.now (tuples_of_one instance.now)) }
     ensures within { IfOk result (λ found. IfSome found (λ probe. probe < length instance.now.probes)) }
 {
     let probes = instance.probes.as_slice().len() as u32;

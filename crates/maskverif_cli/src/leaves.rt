@@ -1,13 +1,14 @@
 //! The leaves of a netlist: its secrets, and which inputs are random leaves.
+
 ghost use Rattle.std.specs.Prelude.{◌≡◌, ◌≤◌, ◌<◌, ◌^◌, length, position, IfOk, OnOk};
 ghost use Rattle.std.specs.List.{list_any};
 ghost use Rattle.std.specs.Str.{bytes_eq};
 ghost use Rattle.narrow_netlist.specs.declared.netlist.InputWire.{InputWire};
-ghost use Rattle.maskverif_cli.specs.Standing.{is_random_leaf, is_zero_share_of, random_number, secrets, with_name, with_secret};
+ghost use Rattle.maskverif_cli.specs.NetlistInstance.{is_random_leaf, is_zero_share_of, random_number, secrets, with_name, with_secret};
 
 use narrow_netlist::{InputWire, Note, ShareIndex};
-use sequences::Sequence;
-use std::alloc::{AllocError, Global};
+use sequences::{NoMemory, Sequence};
+use std::alloc::Global;
 
 /// Whether an input is a random leaf: a random bit, or share 0 of a secret.
 pub fn is_random_leaf(wire: &InputWire) -> bool
@@ -31,7 +32,7 @@ fn is_zero_share_of(secret: &[u8], note: &Note) -> bool
     }
 }
 
-/// How many random leaves stand before a place.
+/// How many random leaves instance_of before a place.
 pub fn random_number(inputs: &[InputWire], place: usize) -> u32
     requires within { place ≤ length inputs.now }
     requires few { length inputs.now < 2 ^ 32 }
@@ -60,7 +61,7 @@ fn has_name(names: &[Sequence<u8>], name: &[u8]) -> bool
 }
 
 /// Adds a name, where it is not there.
-fn add_name(alloc: Global, names: &mut Vec<Sequence<u8>>, name: &[u8]) -> Result<(), AllocError>
+fn add_name(alloc: Global, names: &mut Vec<Sequence<u8>>, name: &[u8]) -> Result<(), NoMemory>
     ensures { OnOk result (names.new.items ≡ with_name names.old.items name.now) }
 {
     if has_name(names, name) {
@@ -71,7 +72,7 @@ fn add_name(alloc: Global, names: &mut Vec<Sequence<u8>>, name: &[u8]) -> Result
 }
 
 /// Adds the secret that a note names, where it is not there.
-fn add_secret(alloc: Global, names: &mut Vec<Sequence<u8>>, note: &Note) -> Result<(), AllocError>
+fn add_secret(alloc: Global, names: &mut Vec<Sequence<u8>>, note: &Note) -> Result<(), NoMemory>
     ensures { OnOk result (names.new.items ≡ with_secret names.old.items note.now) }
 {
     match note {
@@ -81,7 +82,7 @@ fn add_secret(alloc: Global, names: &mut Vec<Sequence<u8>>, note: &Note) -> Resu
 }
 
 /// The secrets, in the order of their first share.
-pub fn secret_names(alloc: Global, inputs: &[InputWire]) -> Result<Vec<Sequence<u8>>, AllocError>
+pub fn secret_names(alloc: Global, inputs: &[InputWire]) -> Result<Vec<Sequence<u8>>, NoMemory>
     ensures { IfOk result (λ names. names.items ≡ secrets inputs.now) }
 {
     let mut names = Vec::new(alloc);

@@ -1,7 +1,10 @@
+//! The texts that the program writes.
+
 ghost use Rattle.std.specs.Prelude.{◌≡◌, IfOk};
 ghost use Rattle.maskverif_cli.specs.Report.{secure_report, unproved_report, refused_report, usage_text};
 
-use std::alloc::{AllocError, Global};
+use sequences::NoMemory;
+use std::alloc::Global;
 
 const USAGE: &str =
     "usage: maskverif verify NOTION ORDER MODEL NETLIST [--workers N] [--certificate OUT] [--schedule SEED]
@@ -27,7 +30,7 @@ pub fn refused() -> &'static [u8]
 }
 
 /// The report where each tuple is proved.
-pub fn secure(alloc: Global, probes: u32, tuples: u64) -> Result<Vec<u8>, AllocError>
+pub fn secure(alloc: Global, probes: u32, tuples: u64) -> Result<Vec<u8>, NoMemory>
     ensures { IfOk result (λ text. text.items ≡ secure_report probes tuples) }
 {
     let text = format!(in alloc;
@@ -43,7 +46,7 @@ pub fn unproved(
     tuples: u64,
     rank: u64,
     name: &[u8],
-) -> Result<Vec<u8>, AllocError>
+) -> Result<Vec<u8>, NoMemory>
     ensures { IfOk result (λ text. text.items ≡ unproved_report probes tuples rank name.now) }
 {
     let before = format!(in alloc;

@@ -1,25 +1,24 @@
-ghost use Rattle.std.specs.Prelude.{◌≡◌, ◌⊎◌, ℕ, List, Some, IsTrue};
+//! The command over files and a sink.
+
+ghost use Rattle.std.specs.Prelude.{◌≡◌, ℕ, List, Some, IsTrue};
 ghost use Rattle.mv_files.specs.Counts.{Rose};
-ghost use Rattle.mv_files.specs.Disk.{Disk, SameFiles};
-ghost use Rattle.mv_files.specs.Told.{WhereTold};
-ghost use Rattle.mv_files.specs.Sending.{Adds, AddsPart};
+ghost use Rattle.mv_files.specs.Disk.{Disk};
 ghost use Rattle.maskverif_cli.specs.declared.status.Status.{Status};
-ghost use Rattle.maskverif_cli.specs.Laws.{IsSameAnswer};
-ghost use Rattle.maskverif_cli.specs.Answer.{is_answer, is_decided, Answers, BreaksOff, IsDue, NamesNarrow, NamesOne};
+ghost use Rattle.maskverif_cli.specs.Answer.{is_answer, is_decided, IsDue, NamesNarrow};
+ghost use Rattle.maskverif_cli.specs.Run.{Outside, Finishes, Runs};
 
 use crate::laws::one_answer_is_due;
 use crate::report;
 use crate::status::{Refusal, Status};
 use crate::verify::{Reply, verify};
 use crate::words::netlist_name;
-use mv_files::{Files, NoMemory, ReadStop, Sink, read_whole, send_whole};
-use narrow_netlist::MAX_BYTES;
+use mv_files::{Files, ReadStop, Sink, read_whole, send_whole};
+use narrow_netlist::MOST_BYTES;
 use std::alloc::Global;
 
 /// Sends the text that is due with a status.
 fn finish<O: Sink>(out: &mut O, text: &[u8], status: Status) -> Status
-    ensures sent { ((result ≡ status) × WhereTold (Adds text.now) (O.written out.old) (O.written out.new))
-        ⊎ ((result ≡ Status.WriteFault) × Rose (O.faults out.old) (O.faults out.new) × WhereTold (AddsPart text.now) (O.written out.old) (O.written out.new)) }
+    ensures { Finishes text.now status (O.written out.old) (O.written out.new) (O.faults out.old) (O.faults out.new) result }
 {
     match send_whole(out, text) {
         Ok(()) => status,
@@ -34,21 +33,26 @@ fn run_command<F: Files, O: Sink>(
     files: &mut F,
     out: &mut O,
 ) -> Status
-    // What is answered where nothing failed, and the text that was written.
-    ensures answer { IsTrue (is_answer result) → Answers words.now (F.disk files.old) (O.written out.old) (O.written out.new) result }
-
-    // The causes of the faults, and what they leave.
-    ensures read_fault { result ≡ Status.ReadFault → NamesOne words.now × Rose (F.read_faults files.old) (F.read_faults files.new) × (O.written out.new ≡ O.written out.old) }
-    ensures write_fault { result ≡ Status.WriteFault → Rose (O.faults out.old) (O.faults out.new) × BreaksOff words.now (F.disk files.old) (O.written out.old) (O.written out.new) }
-    ensures no_memory { result ≡ Status.NoMemory → O.written out.new ≡ O.written out.old }
-
-    // With every answer.
-    ensures files { WhereTold SameFiles (F.disk files.old) (F.disk files.new) }
+    ensures { Runs words.now
+        (record {
+          disk = F.disk files.old;
+          written = O.written out.old;
+          read_faults = F.read_faults files.old;
+          write_faults = F.write_faults files.old;
+          sink_faults = O.faults out.old;
+        })
+        (record {
+          disk = F.disk files.new;
+          written = O.written out.new;
+          read_faults = F.read_faults files.new;
+          write_faults = F.write_faults files.new;
+          sink_faults = O.faults out.new;
+        }) result }
 {
     let Some(name) = netlist_name(words) else {
         return finish(out, report::usage(), Status::Usage);
     };
-    let bytes = match read_whole(alloc, files, name, MAX_BYTES as u64) {
+    let bytes = match read_whole(alloc, files, name, MOST_BYTES as u64) {
         Ok(bytes) => bytes,
         Err(ReadStop::Missing) => return Status::NoFile,
         Err(ReadStop::ReadFault) => return Status::ReadFault,
@@ -71,22 +75,30 @@ pub fn run_plain<F: Files, O: Sink>(
     files: &mut F,
     out: &mut O,
 ) -> Status
-    // What is answered where nothing failed, and the text that was written.
-    ensures answer { IsTrue (is_answer result) → Answers words.now (F.disk files.old) (O.written out.old) (O.written out.new) result }
-
-    // The causes of the faults, and what they leave.
-    ensures read_fault { result ≡ Status.ReadFault → NamesOne words.now × Rose (F.read_faults files.old) (F.read_faults files.new) × (O.written out.new ≡ O.written out.old) }
-    ensures write_fault { result ≡ Status.WriteFault → Rose (O.faults out.old) (O.faults out.new) × BreaksOff words.now (F.disk files.old) (O.written out.old) (O.written out.new) }
-    ensures no_memory { result ≡ Status.NoMemory → O.written out.new ≡ O.written out.old }
-
-    // With every answer.
-    ensures files { WhereTold SameFiles (F.disk files.old) (F.disk files.new) }
+    // What is answered and written where no call failed; else which call failed, and what it leaves.
+    ensures runs { Runs words.now
+        (record {
+          disk = F.disk files.old;
+          written = O.written out.old;
+          read_faults = F.read_faults files.old;
+          write_faults = F.write_faults files.old;
+          sink_faults = O.faults out.old;
+        })
+        (record {
+          disk = F.disk files.new;
+          written = O.written out.new;
+          read_faults = F.read_faults files.new;
+          write_faults = F.write_faults files.new;
+          sink_faults = O.faults out.new;
+        }) result }
 
     // Where the files tell their bytes, no other answer is due: each comes exactly where it is due.
-    ensures only { (disk : Disk) (due : Status) (text : List ℕ) → F.disk files.old ≡ Some disk → IsTrue (is_answer result) → IsDue words.now (Some disk) due text → IsSameAnswer result due }
+    ensures only { (disk : Disk) (due : Status) (text : List ℕ) → F.disk files.old ≡ Some disk → IsTrue (is_answer result)
+        → IsDue words.now (Some disk) due text → result ≡ due }
 
-    // A narrow netlist is decided, unless a fault was counted in this call or memory was refused.
-    ensures complete { NamesNarrow words.now (F.disk files.old) → ¬ Rose (F.read_faults files.old) (F.read_faults files.new) → ¬ Rose (O.faults out.old) (O.faults out.new) → IsTrue (is_decided result) }
+    // A narrow netlist is decided, unless a call failed or memory was refused.
+    ensures complete { NamesNarrow words.now (F.disk files.old) → ¬ Rose (F.read_faults files.old) (F.read_faults files.new)
+        → ¬ Rose (O.faults out.old) (O.faults out.new) → IsTrue (is_decided result) }
 {
     one_answer_is_due();
     run_command(alloc, words, files, out)

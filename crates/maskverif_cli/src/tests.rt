@@ -1,7 +1,8 @@
 //! The command over files and a sink in memory: each answer with its text, and each fault.
 
 use crate::run::run_plain;
-use mv_files::{MemoryFiles, MemorySink, NoMemory};
+use mv_files::{MemoryFiles, MemorySink};
+use sequences::NoMemory;
 use std::alloc::Global;
 use std::test::Fail;
 
@@ -194,7 +195,7 @@ fn names_the_fault(rt: HostRuntime) -> Result<(), Fail> {
     let alloc = rt.alloc();
     let refresh = format!(in alloc; "{BEFORE}    connect \\B \\r\n{AFTER}")?;
     let words = ["verify", "probing", "1", "value", "f.il"];
-    // The file is opened, read, and read once more at its end.
+    // The file is opened, read, and read once more at its end; the sink is called until it took the whole text.
     for (files, sink, piece, status, written_text) in [
         (0, NEVER, 4096, 5, ""),
         (1, NEVER, 4096, 5, ""),
@@ -202,6 +203,7 @@ fn names_the_fault(rt: HostRuntime) -> Result<(), Fail> {
         (3, NEVER, 4096, 0, SECURE),
         (NEVER, 2, 4, 6, "Secure\nn"),
         (NEVER, 0, 4, 6, ""),
+        (NEVER, 1, 4096, 0, SECURE),
     ] {
         let faults = Faults { files, sink, piece };
         let (code, written) = outcome(alloc, words.as_slice(), refresh.as_str(), faults)?;

@@ -1,15 +1,17 @@
+//! The answer to a netlist's bytes, with its report.
+
 ghost use Rattle.std.specs.Prelude.{◌≡◌, ◌∷◌, [], ℕ, List, IfOk, length};
 ghost use Rattle.expr_table.specs.Instance.{IsFitting};
 ghost use Rattle.narrow_netlist.specs.declared.netlist.Netlist.{Netlist};
 ghost use Rattle.maskverif_cli.specs.Answer.{IsVerdict, Means, printed};
-ghost use Rattle.maskverif_cli.specs.Building.{AreSignals};
+ghost use Rattle.maskverif_cli.specs.Building.{AreProbedWires};
 
 use crate::decide::first_unproved;
+use crate::named_instance::{NamedInstance, instance_of};
 use crate::report;
-use crate::standing::{Standing, stand};
 use crate::status::{Refusal, Status, Tuple};
-use mv_files::NoMemory;
 use narrow_netlist::read;
+use sequences::NoMemory;
 use std::alloc::Global;
 
 /// A status, and the report that is due with it.
@@ -38,21 +40,22 @@ fn single(probe: u32) -> Tuple
     tuple
 }
 
-/// What is answered where a netlist stands for this instance.
-fn verdict(alloc: Global, standing: &Standing) -> Result<Reply, NoMemory>
-    requires fitting { IsFitting standing.now.instance }
-    requires signals { length standing.now.signals.items ≡ length standing.now.instance.probes }
-    ensures { IfOk result (λ reply. (bytes : List ℕ) (netlist : Netlist) → Means bytes netlist standing.now.instance → AreSignals standing.now.signals.items netlist → IsVerdict bytes reply.status reply.text.items) }
+/// What is answered to the netlist whose instance this is.
+fn verdict(alloc: Global, named: &NamedInstance) -> Result<Reply, NoMemory>
+    requires fitting { IsFitting named.now.instance }
+    requires wires { length named.now.wires.items ≡ length named.now.instance.probes }
+    ensures { IfOk result (λ reply. (bytes : List ℕ) (netlist : Netlist) → Means bytes netlist named.now.instance
+        → AreProbedWires named.now.wires.items netlist → IsVerdict bytes reply.status reply.text.items) }
 {
-    let probes = standing.instance.probes.as_slice().len() as u32;
-    let Some(probe) = first_unproved(alloc, &standing.instance)? else {
+    let probes = named.instance.probes.as_slice().len() as u32;
+    let Some(probe) = first_unproved(alloc, &named.instance)? else {
         return Ok(Reply {
             status: Status::Secure,
             text: report::secure(alloc, probes, u64::from(probes))?,
         });
     };
-    let signal = &standing.signals[probe as usize];
-    let name = printed(signal.name.as_slice());
+    let wire = &named.wires[probe as usize];
+    let name = printed(wire.name.as_slice());
     let text = report::unproved(alloc, probes, u64::from(probes), u64::from(probe), name)?;
     Ok(Reply {
         status: Status::Unproved(single(probe)),
@@ -71,6 +74,6 @@ pub fn verify(alloc: Global, bytes: &[u8]) -> Result<Reply, NoMemory>
             text,
         });
     };
-    let standing = stand(alloc, &netlist)?;
-    verdict(alloc, &standing)
+    let named = instance_of(alloc, &netlist)?;
+    verdict(alloc, &named)
 }

@@ -1,10 +1,12 @@
+//! The words of a command: the netlist's name, or none.
+
 ghost use Rattle.std.specs.Prelude.{◌≡◌, List, ℕ, IfSome, IfNone, IsTrue, ◌↔◌, ◌&&◌, codes, string_bytes};
 ghost use Rattle.std.specs.Str.{bytes_eq};
-ghost use Rattle.maskverif_cli.specs.Words.{AreTaken, IsName};
+ghost use Rattle.maskverif_cli.specs.Words.{AreTaken, IsFileName};
 
 /// Whether a text may name a file: it is not empty and does not begin with `-`.
-fn is_name(text: &str) -> bool
-    ensures { IsTrue result ↔ IsName text.now }
+fn is_file_name(text: &str) -> bool
+    ensures { IsTrue result ↔ IsFileName text.now }
 {
     match text.as_bytes() {
         [] => false,
@@ -14,7 +16,8 @@ fn is_name(text: &str) -> bool
 
 /// Whether the words before the name are `verify probing 1 value`.
 fn is_request(command: &str, notion: &str, order: &str, model: &str) -> bool
-    ensures { result ≡ (bytes_eq command.now (codes "verify") && bytes_eq notion.now (codes "probing") && bytes_eq order.now (codes "1") && bytes_eq model.now (codes "value")) }
+    ensures { result ≡ (bytes_eq command.now (codes "verify") && bytes_eq notion.now (codes "probing")
+        && bytes_eq order.now (codes "1") && bytes_eq model.now (codes "value")) }
 {
     command == "verify" && notion == "probing" && order == "1" && model == "value"
 }
@@ -36,7 +39,7 @@ pub fn netlist_name(words: &[String]) -> Option<&str>
     ) {
         return None;
     }
-    if !is_name(name.as_str()) {
+    if !is_file_name(name.as_str()) {
         return None;
     }
     Some(name.as_str())

@@ -1,10 +1,10 @@
-use Rattle.std.proofs.Common.{◌≡◌, ◌∷◌, [], List, Bool, true, false, length, set, sym, ap, ◌∙◌, subst, arith, length-set}
+use Rattle.std.proofs.Common.{◌≡◌, ◌∷◌, [], List, Bool, true, false, length, set, sym, ap, ◌∙◌, subst}
 use Rattle.std.specs.Prelude.{replicate}
 use Rattle.std.specs.Result.{IfOk}
-use Rattle.std.proofs.lemmas.List.{length-replicate}
-use Rattle.bit_rows.specs.Sets.{members, members_below}
+use Rattle.bit_rows.specs.Sets.{members}
 use Rattle.once_random.specs.Tuples.{is_proved}
-use Rattle.maskverif_cli.proofs.Singles.{members-alone, set-back}
+use Rattle.maskverif_cli.proofs.Singles.{set-back}
+use Rattle.once_random.proofs.Facts.{members-one}
 use Rattle.maskverif_cli.proofs.decide.is_probe_proved.Goals as goal
 
 pub returns-clause-none : goal.returns-clause-none
@@ -18,7 +18,5 @@ returns-clause-proved c =
     let n = length c.args.instance.now.probes in
     let p = c.args.probe in
     let flags : c.set.new.self ≡ set (replicate n false) p true = c.set.ensures ∙ ap (λ (t : List Bool). set t p true) c.requires.none in
-    let long : length (set (replicate n false) p true) ≡ n = omega (arith, length-set (replicate n false) p true, length-replicate n false) in
-    let alone : members c.set.new.self ≡ p ∷ [] =
-    ap members flags ∙ ap (members_below (set (replicate n false) p true)) long ∙ members-alone n p c.requires.within n c.requires.within (omega arith) in
+    let alone : members c.set.new.self ≡ p ∷ [] = ap members flags ∙ members-one n p c.requires.within in
     subst (λ tuple. IfOk c.is_proved-proved.result (λ proved. proved ≡ is_proved c.args.instance.now tuple)) alone c.is_proved-proved.ensures.proved

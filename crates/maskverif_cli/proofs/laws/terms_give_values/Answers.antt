@@ -1,4 +1,4 @@
-use Rattle.maskverif_cli.proofs.SignalValues.{terms-give-values}
+use Rattle.maskverif_cli.proofs.WireValues.{terms-give-values}
 use Rattle.maskverif_cli.proofs.laws.terms_give_values.Goals as goal
 
 pub returns : goal.returns

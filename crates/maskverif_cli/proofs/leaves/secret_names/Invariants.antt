@@ -1,5 +1,5 @@
 use Rattle.std.proofs.Common.{◌≡◌, drop}
-use Rattle.maskverif_cli.specs.Standing.{secrets, secrets_after}
+use Rattle.maskverif_cli.specs.NetlistInstance.{secrets, secrets_after}
 use Rattle.maskverif_cli.proofs.leaves.secret_names.Given as goal
 
 -- the names so far, and those of what is left

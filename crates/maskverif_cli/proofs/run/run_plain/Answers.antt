@@ -29,5 +29,5 @@ returns-clause-complete g c named no_read_fault no_write_fault =
     let ensures = c.run_command.ensures in
     by_status c.run_command.result
     (λ answered. let answer = ensures.answer answered in decided c.args.words.now (g.F.Files.disk c.args.files.now) c.run_command.result answer.text named answer.due)
-    (λ fault. no_read_fault (ensures.read_fault fault).1)
-    (λ fault. no_write_fault (ensures.write_fault fault).0)
+    (λ fault. no_read_fault (ensures.read_fault fault).counted)
+    (λ fault. no_write_fault (ensures.write_fault fault).counted)

@@ -2,7 +2,7 @@ use Rattle.std.proofs.Common.{◌≡◌, ◌<◌, ◌+◌, ◌∷◌, [], List, 
 use Rattle.std.specs.Option.{option_map, IfSome}
 use Rattle.std.specs.List.{slice_get}
 use Rattle.std.proofs.lemmas.List.FromFn.{length-map-range_with_len}
-use Rattle.maskverif_cli.specs.declared.signals.SignalRow.{SignalRow}
+use Rattle.maskverif_cli.specs.declared.probed_wires.WireRow.{WireRow}
 use Rattle.maskverif_cli.specs.Answer.{printed}
 use Rattle.maskverif_cli.specs.Report.{secure_report, unproved_report}
 use Rattle.maskverif_cli.proofs.Singles.{single-at, map-at}
@@ -10,7 +10,7 @@ use Rattle.maskverif_cli.proofs.verify.verdict.Goals as goal
 
 pub returns-in_default : goal.returns-in_default
 returns-in_default c bytes netlist means names =
-    let x = c.args.standing.now.instance in
+    let x = c.args.named.now.instance in
     let probes = ap length c.as_slice.ensures in
     let tuples = c.from.ensures ∙ probes ∙ sym (length-map-range_with_len (λ p. p ∷ []) 0 (length x.probes)) in
     record {
@@ -23,10 +23,10 @@ returns-in_default c bytes netlist means names =
 
 pub returns : goal.returns
 returns c bytes netlist means names =
-    let x = c.args.standing.now.instance in
-    let rows = c.args.standing.now.signals.items in
+    let x = c.args.named.now.instance in
+    let rows = c.args.named.now.wires.items in
     let probe = c.in-Some.probe in
-    let signal = c.index-signal.result.now in
+    let wire = c.index-wire.result.now in
     let probes = ap length c.as_slice.ensures in
     let tuples = c.from-2.ensures ∙ probes ∙ sym (length-map-range_with_len (λ p. p ∷ []) 0 (length x.probes)) in
     let within = subst (λ o. IfSome o (λ p. p < length x.probes)) c.in-Some.is c.in_ok-probe.ensures.within in
@@ -42,7 +42,7 @@ returns c bytes netlist means names =
       ranked = single-at 0 (length x.probes) probe within ∙ ap (λ k. Some (k ∷ [])) here ∙ single;
       probe = probe;
       single = c.single.ensures;
-      name = signal.name;
-      named = ap (λ (l : List (List ℕ)). slice_get l probe) (sym names) ∙ map-at (λ (row : SignalRow). row.name) rows probe signal (subst (λ n. probe < n) (sym c.requires.signals) within) c.index-signal.ensures;
+      name = wire.name;
+      named = ap (λ (l : List (List ℕ)). slice_get l probe) (sym names) ∙ map-at (λ (row : WireRow). row.name) rows probe wire (subst (λ n. probe < n) (sym c.requires.wires) within) c.index-wire.ensures;
       report = c.in_ok-text.ensures ∙ (λ i. unproved_report (probes i) (tuples i) (c.from-3.ensures i) (name i));
     }

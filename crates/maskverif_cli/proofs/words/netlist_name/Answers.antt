@@ -1,5 +1,5 @@
 use Rattle.std.proofs.Common.{[], ◌∷◌, sym, ap, ◌∙◌, subst}
-use Rattle.maskverif_cli.specs.Words.{IsName, texts}
+use Rattle.maskverif_cli.specs.Words.{IsFileName, texts}
 use Rattle.maskverif_cli.proofs.Taken.{five, four_same}
 use Rattle.maskverif_cli.proofs.words.netlist_name.Goals as goal
 
@@ -16,5 +16,5 @@ returns-clause-taken c =
     record {
       words_are = ap texts words
           ∙ (λ i. command i ∷ notion i ∷ order i ∷ model i ∷ (sym c.as_str-6.ensures.value) i ∷ []);
-      name_is = subst IsName name (c.is_name.ensures.0 c.if-not-is_name.false);
+      name_is = subst IsFileName name (c.is_file_name.ensures.0 c.if-not-is_file_name.false);
     }

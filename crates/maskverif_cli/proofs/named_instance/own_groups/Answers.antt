@@ -1,6 +1,6 @@
 use Rattle.std.proofs.Common.{◌≡◌, ℕ, zero, suc, ◌+◌, List, [], ◌∷◌, ◌++◌, Some, Option, sym, ap, ◌∙◌, arith}
-use Rattle.maskverif_cli.specs.Standing.{groups_from}
-use Rattle.maskverif_cli.proofs.standing.own_groups.Goals as goal
+use Rattle.maskverif_cli.specs.NetlistInstance.{groups_from}
+use Rattle.maskverif_cli.proofs.named_instance.own_groups.Goals as goal
 
 groups_from-push : (first k : ℕ) → groups_from first (suc k) ≡ groups_from first k ++ Some (first + k) ∷ []
 groups_from-push first zero = let e : first ≡ first + 0 = omega arith in ap (λ n. Some n ∷ []) e

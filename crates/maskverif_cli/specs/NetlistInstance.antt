@@ -1,5 +1,5 @@
--- The instance that a narrow netlist stands for: its secrets and random leaves, the terms of its signals,
--- and the probes on them.
+-- The instance of a narrow netlist: its secrets and random leaves, the terms of the wires that probes sit on, and the
+-- probes.
 use Rattle.std.specs.Prelude.{ℕ, ◌+◌, ◌≡◌, Bool, true, false, List, [], ◌∷◌, ◌++◌, map, take, length, count_by, position, find, Option, Some, if◌then◌else◌, ◌&&◌, zero, suc}
 use Rattle.std.specs.List.{list_any}
 use Rattle.std.specs.Option.{option_map_or}
@@ -72,36 +72,36 @@ input_term inputs place Random = term.Random (random_number inputs place)
 input_term inputs place (Share share) = if is_index Zero share.index then term.Random (random_number inputs place) else one_share_term inputs share.secret
 
 -- a wire that a probe sits on: its name and its term
-pub record Signal : Type 0 where
+pub record ProbedWire : Type 0 where
   pub name : List ℕ
   pub term : Term
 
-abbrev pub input_signals_from : List InputWire → ℕ → List InputWire → List Signal
-input_signals_from inputs place [] = []
-input_signals_from inputs place (wire ∷ wires) = record { name = wire.name; term = input_term inputs place wire.note } ∷ input_signals_from inputs (place + 1) wires
+abbrev pub probed_inputs_from : List InputWire → ℕ → List InputWire → List ProbedWire
+probed_inputs_from inputs place [] = []
+probed_inputs_from inputs place (wire ∷ wires) = record { name = wire.name; term = input_term inputs place wire.note } ∷ probed_inputs_from inputs (place + 1) wires
 
--- the term of the signal of this name; a netlist reads no other names
-abbrev pub term_named : List Signal → List ℕ → Term
-term_named signals name = option_map_or (λ (signal : Signal). signal.term) (find (λ (signal : Signal). bytes_eq signal.name name) signals) term.Zero
+-- the term of the wire of this name; a netlist reads no other names
+abbrev pub term_named : List ProbedWire → List ℕ → Term
+term_named wires name = option_map_or (λ (wire : ProbedWire). wire.term) (find (λ (wire : ProbedWire). bytes_eq wire.name name) wires) term.Zero
 
-abbrev pub cell_signal : List Signal → XorCell → Signal
-cell_signal signals cell = record { name = cell.y; term = xor_of (term_named signals cell.a) (term_named signals cell.b) }
+abbrev pub probed_cell : List ProbedWire → XorCell → ProbedWire
+probed_cell wires cell = record { name = cell.y; term = xor_of (term_named wires cell.a) (term_named wires cell.b) }
 
-abbrev pub with_cells : List Signal → List XorCell → List Signal
-with_cells signals [] = signals
-with_cells signals (cell ∷ cells) = with_cells (signals ++ cell_signal signals cell ∷ []) cells
+abbrev pub with_cells : List ProbedWire → List XorCell → List ProbedWire
+with_cells wires [] = wires
+with_cells wires (cell ∷ cells) = with_cells (wires ++ probed_cell wires cell ∷ []) cells
 
 -- the inputs in port order, then the cells in the order of the text
-abbrev pub signals : Netlist → List Signal
-signals n = with_cells (input_signals_from n.inputs 0 n.inputs) n.cells
+abbrev pub probed_wires : Netlist → List ProbedWire
+probed_wires n = with_cells (probed_inputs_from n.inputs 0 n.inputs) n.cells
 
 abbrev pub with_terms : List Term → List Term → List Term
 with_terms ts [] = ts
 with_terms ts (t ∷ more) = with_terms (with_term ts t) more
 
--- the terms of the rows: the leaves, and then each signal's term where it is first needed
+-- the terms of the rows: the leaves, and then each wire's term where it is first needed
 abbrev pub terms_of : Netlist → List Term
-terms_of n = with_terms (terms (leaves (length (secrets n.inputs)) (count_by is_random_leaf n.inputs))) (map (λ (signal : Signal). signal.term) (signals n))
+terms_of n = with_terms (terms (leaves (length (secrets n.inputs)) (count_by is_random_leaf n.inputs))) (map (λ (wire : ProbedWire). wire.term) (probed_wires n))
 
 -- an output share has this name
 abbrev pub is_output : List OutputWire → List ℕ → Bool
@@ -112,13 +112,13 @@ abbrev pub groups_from : ℕ → ℕ → List (Option ℕ)
 groups_from first zero = []
 groups_from first (suc k) = Some first ∷ groups_from (first + 1) k
 
--- the instance that the netlist stands for
-pub record StandsFor (n : Netlist) (x : Instance) : Type 0 where
+-- the instance of the netlist
+pub record HasInstance (n : Netlist) (x : Instance) : Type 0 where
   pub notion : x.notion ≡ Probing
   pub table : IsTable x.table
   pub inputs : x.table.inputs ≡ length (secrets n.inputs)
   pub randoms : x.table.randoms ≡ count_by is_random_leaf n.inputs
   pub rows : terms x.table.nodes ≡ terms_of n
-  pub roots : map rows_of x.probes ≡ map (λ (signal : Signal). place_of (terms_of n) signal.term ∷ []) (signals n)
-  pub outputs : map (λ (probe : ProbeRoots). probe.output) x.probes ≡ map (λ (signal : Signal). is_output n.outputs signal.name) (signals n)
+  pub roots : map rows_of x.probes ≡ map (λ (wire : ProbedWire). place_of (terms_of n) wire.term ∷ []) (probed_wires n)
+  pub outputs : map (λ (probe : ProbeRoots). probe.output) x.probes ≡ map (λ (wire : ProbedWire). is_output n.outputs wire.name) (probed_wires n)
   pub groups : x.groups ≡ groups_from 0 (length (secrets n.inputs))

@@ -1,19 +1,19 @@
-//! The rows of a netlist's signals: inputs in port order, then cells in the order of the text.
+//! The rows of the wires that probes sit on: inputs in port order, then what the cells drive in the order of the text.
+
 ghost use Rattle.std.specs.Prelude.{◌≡◌, ◌≤◌, ◌<◌, ◌+◌, ◌^◌, length, count_by, find, slice_get, List, [], ◌∷◌, ◌++◌, IfOk, OnOk, IfSome};
 ghost use Rattle.std.specs.Option.{option_map};
 ghost use Rattle.std.specs.List.{AllZip};
 ghost use Rattle.std.specs.Str.{bytes_eq};
-ghost use Rattle.expr_table.specs.Table.{IsRowOf, terms, term_at};
-ghost use Rattle.expr_table.specs.Term.{xor_of};
+ghost use Rattle.expr_table.specs.Table.{IsRowOf, most_rows, xor_at};
 ghost use Rattle.expr_table.specs.Term as term;
-ghost use Rattle.maskverif_cli.specs.declared.signals.SignalRow.{SignalRow};
-ghost use Rattle.maskverif_cli.specs.Building.{HasRows, IsSignalRow, Places};
-ghost use Rattle.maskverif_cli.specs.Standing.{Signal, input_signals_from, input_term, is_random_leaf, one_share_term, random_number, secret_term, secrets, signals, term_named, zero_share_term};
+ghost use Rattle.maskverif_cli.specs.declared.probed_wires.WireRow.{WireRow};
+ghost use Rattle.maskverif_cli.specs.Building.{HasRows, IsWireRow, Places};
+ghost use Rattle.maskverif_cli.specs.NetlistInstance.{ProbedWire, probed_inputs_from, input_term, is_random_leaf, one_share_term, random_number, secret_term, secrets, probed_wires, term_named, zero_share_term};
 
 use crate::leaves::{random_number, secret_place, zero_share_place};
 use expr_table::{ExprTable, Row, TermStop};
 use narrow_netlist::{InputWire, Netlist, Note, ShareIndex};
-use sequences::Sequence;
+use sequences::{NoMemory, Sequence};
 use std::alloc::{AllocError, Global};
 
 /// The row of a secret's leaf.
@@ -41,11 +41,11 @@ fn zero_share_row(table: &ExprTable, inputs: &[InputWire], secret: &[u8]) -> Row
 }
 
 /// The row of the exclusive or of two rows, in a table that has room for one more.
-fn xor(table: &mut ExprTable, a: Row, b: Row) -> Result<Row, AllocError>
+fn xor(table: &mut ExprTable, a: Row, b: Row) -> Result<Row, NoMemory>
     requires a_in { a.0 < length table.old.nodes }
     requires b_in { b.0 < length table.old.nodes }
-    requires room { length table.old.nodes < 524288 }
-    ensures { IfOk result (λ row. Places table.old table.new row.0 (xor_of (term_at (terms table.old.nodes) a.0) (term_at (terms table.old.nodes) b.0))) }
+    requires room { length table.old.nodes < most_rows }
+    ensures { IfOk result (λ row. Places table.old table.new row.0 (xor_at table.old.nodes a b)) }
 {
     match table.xor(a, b) {
         Ok(row) => Ok(row),
@@ -60,13 +60,13 @@ fn one_share_row(
     inputs: &[InputWire],
     names: &[Sequence<u8>],
     secret: &[u8],
-) -> Result<Row, AllocError>
+) -> Result<Row, NoMemory>
     requires few { length inputs.now < 2 ^ 32 }
     requires few_names { length names.now < 2 ^ 32 }
     requires inputs_are { table.old.inputs ≡ length names.now }
     requires randoms_are { table.old.randoms ≡ count_by is_random_leaf inputs.now }
     requires names_are { names.now ≡ secrets inputs.now }
-    requires room { length table.old.nodes < 524288 }
+    requires room { length table.old.nodes < most_rows }
     ensures { IfOk result (λ row. Places table.old table.new row.0 (one_share_term inputs.now secret.now)) }
 {
     let leaf = secret_row(table, names, secret);
@@ -90,15 +90,16 @@ fn input_row(
     inputs: &[InputWire],
     names: &[Sequence<u8>],
     place: usize,
-) -> Result<Row, AllocError>
+) -> Result<Row, NoMemory>
     requires within { place < length inputs.now }
     requires few { length inputs.now < 2 ^ 32 }
     requires few_names { length names.now < 2 ^ 32 }
     requires inputs_are { table.old.inputs ≡ length names.now }
     requires randoms_are { table.old.randoms ≡ count_by is_random_leaf inputs.now }
     requires names_are { names.now ≡ secrets inputs.now }
-    requires room { length table.old.nodes < 524288 }
-    ensures { IfOk result (λ row. IfSome (slice_get inputs.now place) (λ wire. Places table.old table.new row.0 (input_term inputs.now place wire.note))) }
+    requires room { length table.old.nodes < most_rows }
+    ensures { IfOk result (λ row. IfSome (slice_get inputs.now place)
+        (λ wire. Places table.old table.new row.0 (input_term inputs.now place wire.note))) }
 {
     let wire = &inputs[place];
     match &wire.note {
@@ -115,22 +116,17 @@ fn input_row(
 
 /// A wire that a probe sits on, and the row of its term.
 #[derive(Debug, Drop)]
-pub struct SignalRow {
+pub struct WireRow {
     pub name: Sequence<u8>,
     pub row: Row,
 }
 
-/// Adds a signal with its row.
-fn add_signal(
-    alloc: Global,
-    rows: &mut Vec<SignalRow>,
-    name: &[u8],
-    row: Row,
-) -> Result<(), AllocError>
+/// Adds a wire with its row.
+fn add_wire(alloc: Global, rows: &mut Vec<WireRow>, name: &[u8], row: Row) -> Result<(), NoMemory>
     ensures { OnOk result (rows.new.items ≡ rows.old.items ++ (record { name = name.now; row = row }) ∷ []) }
 {
     let name = Sequence::from_vec(Vec::from_slice(alloc, name)?);
-    rows.push(SignalRow { name, row })?;
+    rows.push(WireRow { name, row })?;
     Ok(())
 }
 
@@ -140,60 +136,62 @@ fn input_rows(
     table: &mut ExprTable,
     inputs: &[InputWire],
     names: &[Sequence<u8>],
-) -> Result<Vec<SignalRow>, AllocError>
+) -> Result<Vec<WireRow>, NoMemory>
     requires few { length inputs.now < 2 ^ 32 }
     requires few_names { length names.now < 2 ^ 32 }
     requires inputs_are { table.old.inputs ≡ length names.now }
     requires randoms_are { table.old.randoms ≡ count_by is_random_leaf inputs.now }
     requires names_are { names.now ≡ secrets inputs.now }
-    requires room { length table.old.nodes + length inputs.now ≤ 524288 }
-    ensures { IfOk result (λ rows. HasRows table.old table.new rows.items (input_signals_from inputs.now 0 inputs.now)) }
+    requires room { length table.old.nodes + length inputs.now ≤ most_rows }
+    ensures { IfOk result (λ rows. HasRows table.old table.new rows.items (probed_inputs_from inputs.now 0 inputs.now)) }
 {
     let mut rows = Vec::new(alloc);
     for place in 0..inputs.len() {
         let row = input_row(table, inputs, names, place)?;
-        add_signal(alloc, &mut rows, inputs[place].name.as_slice(), row)?;
+        add_wire(alloc, &mut rows, inputs[place].name.as_slice(), row)?;
     }
     Ok(rows)
 }
 
-/// The row of the signal of a name, where there is one.
-fn found_row(rows: &[SignalRow], name: &[u8]) -> Option<Row>
-    ensures { result ≡ option_map (λ (signal : SignalRow). signal.row) (find (λ (signal : SignalRow). bytes_eq signal.name name.now) rows.now) }
+/// The row of the wire of a name, where there is one.
+fn found_row(rows: &[WireRow], name: &[u8]) -> Option<Row>
+    ensures { result ≡ option_map (λ (wire : WireRow). wire.row)
+        (find (λ (wire : WireRow). bytes_eq wire.name name.now) rows.now) }
 {
     rows.iter()
-        .find(|signal| signal.name.as_slice() == name)
-        .map(|signal| signal.row)
+        .find(|wire| wire.name.as_slice() == name)
+        .map(|wire| wire.row)
 }
 
-/// The row of the signal of a name; that of Zero where there is none, which no netlist reads.
-fn named_row(table: &ExprTable, rows: &[SignalRow], name: &[u8]) -> Row
-    ensures { (signals : List Signal) → AllZip (IsSignalRow table.now.nodes) rows.now signals → IsRowOf table.now.nodes result.0 (term_named signals name.now) }
+/// The row of the wire of a name; that of Zero where there is none, which no netlist reads.
+fn named_row(table: &ExprTable, rows: &[WireRow], name: &[u8]) -> Row
+    ensures { (wires : List ProbedWire) → AllZip (IsWireRow table.now.nodes) rows.now wires
+        → IsRowOf table.now.nodes result.0 (term_named wires name.now) }
 {
     found_row(rows, name).unwrap_or(table.zero())
 }
 
 /// The rows of the inputs in port order, and then of the cells in the order of the text.
-pub fn signal_rows(
+pub fn wire_rows(
     alloc: Global,
     table: &mut ExprTable,
     netlist: &Netlist,
     names: &[Sequence<u8>],
-) -> Result<Vec<SignalRow>, AllocError>
+) -> Result<Vec<WireRow>, NoMemory>
     requires few { length netlist.now.inputs < 2 ^ 32 }
     requires few_names { length names.now < 2 ^ 32 }
     requires inputs_are { table.old.inputs ≡ length names.now }
     requires randoms_are { table.old.randoms ≡ count_by is_random_leaf netlist.now.inputs }
     requires names_are { names.now ≡ secrets netlist.now.inputs }
-    requires room { length table.old.nodes + length netlist.now.inputs + length netlist.now.cells ≤ 524288 }
-    ensures { IfOk result (λ rows. HasRows table.old table.new rows.items (signals netlist.now)) }
+    requires room { length table.old.nodes + length netlist.now.inputs + length netlist.now.cells ≤ most_rows }
+    ensures { IfOk result (λ rows. HasRows table.old table.new rows.items (probed_wires netlist.now)) }
 {
     let mut rows = input_rows(alloc, table, netlist.inputs.as_slice(), names)?;
     for cell in netlist.cells.as_slice() {
         let a = named_row(table, &rows, cell.a.as_slice());
         let b = named_row(table, &rows, cell.b.as_slice());
         let row = xor(table, a, b)?;
-        add_signal(alloc, &mut rows, cell.y.as_slice(), row)?;
+        add_wire(alloc, &mut rows, cell.y.as_slice(), row)?;
     }
     Ok(rows)
 }

@@ -4,9 +4,9 @@ use Rattle.std.proofs.lemmas.List.Quantifiers.{position-Some}
 use Rattle.narrow_netlist.specs.declared.netlist.InputWire.{InputWire}
 use Rattle.narrow_netlist.specs.declared.netlist.Note.{Note}
 use Rattle.narrow_netlist.specs.declared.netlist.Note.TheVariants.{Random, Share}
-use Rattle.maskverif_cli.specs.Standing.{is_random_leaf, is_random_note, is_zero_share_of}
+use Rattle.maskverif_cli.specs.NetlistInstance.{is_random_leaf, is_random_note, is_zero_share_of}
 use Rattle.maskverif_cli.proofs.Counting.{count_before}
-use Rattle.maskverif_cli.proofs.signals.zero_share_row.Goals as goal
+use Rattle.maskverif_cli.proofs.probed_wires.zero_share_row.Goals as goal
 
 -- share 0 of a secret is a random leaf
 is_leaf : (secret : List ℕ) (note : Note) → is_zero_share_of secret note ≡ true → is_random_note note ≡ true

@@ -1,19 +1,22 @@
--- Each signal's term has its wire's value.
-use Rattle.std.proofs.Common.{◌≡◌, ℕ, suc, ◌+◌, ◌<◌, Bool, true, false, cond, List, [], ◌∷◌, length, map, get_or, refl, ap, ◌∙◌, arith}
+-- Each probed wire's term has the wire's value.
+use Rattle.std.proofs.Common.{◌≡◌, ℕ, suc, ◌+◌, ◌<◌, Bool, true, false, cond, List, [], ◌∷◌, length, map, get_or, refl, ap, ◌∙◌, arith, All}
 use Rattle.std.specs.List.{AllByRecursion}
 use Rattle.std.proofs.lemmas.List.Elements.{All-from_recursion}
 use Rattle.std.proofs.lemmas.List.Quantifiers.{position-Some}
 use Rattle.expr_table.specs.Term as term
+use Rattle.narrow_netlist.specs.declared.netlist.Netlist.{Netlist}
 use Rattle.narrow_netlist.specs.declared.netlist.InputWire.{InputWire}
+use Rattle.narrow_netlist.specs.Narrow.{IsNarrow}
 use Rattle.narrow_netlist.specs.declared.netlist.ShareIndex.{ShareIndex}
 use Rattle.narrow_netlist.specs.declared.netlist.ShareIndex.TheVariants as index
 use Rattle.narrow_netlist.specs.declared.netlist.Note.{Note}
 use Rattle.narrow_netlist.specs.declared.netlist.Note.TheVariants.{Random, Share}
 use Rattle.narrow_netlist.specs.Wiring.{HasBothShares, input_shares, input_names, is_index}
-use Rattle.maskverif_cli.specs.Standing.{Signal, secrets, input_signals_from, input_term, is_random_note, is_zero_share_of, one_share_term, random_number, secret_term, zero_share_term}
+use Rattle.maskverif_cli.specs.NetlistInstance.{ProbedWire, probed_wires, secrets, probed_inputs_from, input_term, is_random_note, is_zero_share_of, one_share_term, random_number, secret_term, zero_share_term}
 use Rattle.expr_table.specs.Values.{xor, eval}
-use Rattle.maskverif_cli.specs.Values.{secret_bits, random_bits, HasValue, TermsGiveValues}
-use Rattle.maskverif_cli.proofs.GateValues.{eval-xor_of, cells-have-values}
+use Rattle.maskverif_cli.specs.Values.{secret_bits, random_bits, HasValue, Follows}
+use Rattle.expr_table.proofs.Facts.{eval-xor_of}
+use Rattle.maskverif_cli.proofs.GateValues.{cells-have-values}
 use Rattle.maskverif_cli.proofs.LeafValues.{random-bit, zero-share-bit, secret-bit, get_or-itself}
 use Rattle.maskverif_cli.proofs.ShareValues.{zero-share-there, shares-join}
 
@@ -49,7 +52,7 @@ module _ (value : List ℕ → Bool) (inputs : List InputWire) (both : HasBothSh
 
   -- the inputs from a place on
   inputs-have_values : (place : ℕ) (wires : List InputWire) → place + length wires ≡ length inputs → ((k : ℕ) (d : InputWire) → k < length wires → get_or wires k d ≡ get_or inputs (place + k) d)
-      → AllByRecursion (HasValue value inputs) (input_signals_from inputs place wires)
+      → AllByRecursion (HasValue value inputs) (probed_inputs_from inputs place wires)
   inputs-have_values place [] long same = tt
   inputs-have_values place (wire ∷ wires) long same =
       let here : place + 0 ≡ place = omega arith in
@@ -59,13 +62,13 @@ module _ (value : List ℕ → Bool) (inputs : List InputWire) (both : HasBothSh
             (λ k d lt. let next : place + suc k ≡ place + 1 + k = omega arith in same (suc k) d (omega arith) ∙ ap (λ j. get_or inputs j d) next),
       )
 
-names-of_inputs : (inputs : List InputWire) (place : ℕ) (wires : List InputWire) → map (λ (s : Signal). s.name) (input_signals_from inputs place wires) ≡ input_names wires
+names-of_inputs : (inputs : List InputWire) (place : ℕ) (wires : List InputWire) → map (λ (s : ProbedWire). s.name) (probed_inputs_from inputs place wires) ≡ input_names wires
 names-of_inputs inputs place [] = refl
 names-of_inputs inputs place (wire ∷ wires) = ap (λ l. wire.name ∷ l) (names-of_inputs inputs (place + 1) wires)
 
-pub terms-give-values : TermsGiveValues
+pub terms-give-values : (bytes : List ℕ) (n : Netlist) (value : List ℕ → Bool) → IsNarrow bytes n → Follows n value → All (HasValue value n.inputs) (probed_wires n)
 terms-give-values bytes n value narrow follows =
     let inputs = n.inputs in
     let values = inputs-have_values value inputs narrow.wired.inputs_shared 0 inputs (omega arith) (λ k d lt. let here : k ≡ 0 + k = omega arith in ap (λ j. get_or inputs j d) here) in
-    cells-have-values value inputs n.cells follows narrow.wired.cells_fit.in_order (input_signals_from inputs 0 inputs) (names-of_inputs inputs 0 inputs)
-    (All-from_recursion (HasValue value inputs) (input_signals_from inputs 0 inputs) values)
+    cells-have-values value inputs n.cells follows narrow.wired.cells_fit.in_order (probed_inputs_from inputs 0 inputs) (names-of_inputs inputs 0 inputs)
+    (All-from_recursion (HasValue value inputs) (probed_inputs_from inputs 0 inputs) values)
