@@ -32,7 +32,7 @@ fn is_zero_share_of(secret: &[u8], note: &Note) -> bool
     }
 }
 
-/// How many random leaves instance_of before a place.
+/// How many random leaves stand before a place.
 pub fn random_number(inputs: &[InputWire], place: usize) -> u32
     requires within { place ≤ length inputs.now }
     requires few { length inputs.now < 2 ^ 32 }
