@@ -1,11 +1,11 @@
 -- The gates of two terms the other way round.
-use Rattle.std.proofs.Common.{◌≡◌, Option, None, Some, unwrap_or, Ordering, Less, Equal, Greater, ◌⊎◌, inl, inr, refl, sym, ap, ◌∙◌, ⊎_elim}
-use Rattle.std.specs.Ordering.{ordering_reverse}
+use Rattle.std.proofs.Common.{◌≡◌, Option, None, Some, unwrap_or, ◌⊎◌, inl, inr, refl, sym, ap, ◌∙◌, ⊎_elim}
+use Rattle.expr_table.specs.declared.table.gate.Gate.TheVariants as gate
 use Rattle.std.proofs.lemmas.Bool.{cases_Bool}
-use Rattle.expr_table.specs.Term.{Term, Zero, One, Xor, term_cmp, is_same, xor_of, and_of, without_one, ordered_xor, ordered_and}
-use Rattle.expr_table.proofs.Order.{is_same-exact, is_same-equal, cmp_exact, cmp_antisymm}
+use Rattle.expr_table.specs.Term.{Term, Zero, One, Xor, is_same, xor_of, and_of, without_one, ordered_xor}
+use Rattle.expr_table.proofs.Order.{is_same-exact, is_same-equal}
 use Rattle.expr_table.proofs.Ands.{and_of-zero_left, and_of-zero_right, and_of-one_left, and_of-one_right, and_of-same, and_of-other}
-use Rattle.expr_table.proofs.Ordered.{ordered_and-Greater, ordered_and-Less, ordered_xor-Greater, ordered_xor-Less}
+use Rattle.expr_table.proofs.Ordered.{ordered_gate-turned}
 use Rattle.expr_table.proofs.Xors.{xor_of-same, xor_of-zero_left, xor_of-zero_right, xor_of-other}
 
 same_or_not : (s t : Term) → (s ≡ t) ⊎ (s ≡ t → ⊥)
@@ -14,14 +14,6 @@ same_or_not s t = ⊎_elim (λ e. inl (is_same-exact s t e)) (λ e. inr (λ same
 without_one-once : (a b c : Term) → without_one a b ≡ Some c → without_one b a ≡ None
 without_one-once One (Xor x d) c e = refl
 without_one-once _ _ c e = cc
-
-ordered_xor-turned : (a b : Term) → (a ≡ b → ⊥) → ordered_xor a b ≡ ordered_xor b a
-ordered_xor-turned a b other = by (term_cmp a b) refl
-  where
-    by : (o : Ordering) → term_cmp a b ≡ o → ordered_xor a b ≡ ordered_xor b a
-    by Less e = ordered_xor-Less a b e ∙ sym (ordered_xor-Greater b a (cmp_antisymm b a ∙ ap ordering_reverse e))
-    by Greater e = ordered_xor-Greater a b e ∙ sym (ordered_xor-Less b a (cmp_antisymm b a ∙ ap ordering_reverse e))
-    by Equal e = absurd (other (cmp_exact a b e))
 
 last-turned : (a b : Term) → (a ≡ b → ⊥)
     → unwrap_or (without_one a b) (unwrap_or (without_one b a) (ordered_xor a b)) ≡ unwrap_or (without_one b a) (unwrap_or (without_one a b) (ordered_xor b a))
@@ -33,7 +25,7 @@ last-turned a b other = by (without_one a b) refl
         ap (λ o. unwrap_or o (unwrap_or (without_one b a) (ordered_xor a b))) e ∙ sym (ap (λ o. unwrap_or o (ordered_xor b a)) e)
         ∙ sym (ap (λ o. unwrap_or o (unwrap_or (without_one a b) (ordered_xor b a))) (without_one-once a b c e))
     by None e =
-        ap (λ o. unwrap_or o (unwrap_or (without_one b a) (ordered_xor a b))) e ∙ ap (unwrap_or (without_one b a)) (ordered_xor-turned a b other)
+        ap (λ o. unwrap_or o (unwrap_or (without_one b a) (ordered_xor a b))) e ∙ ap (unwrap_or (without_one b a)) (ordered_gate-turned gate.Xor a b other)
         ∙ sym (ap (λ o. unwrap_or (without_one b a) (unwrap_or o (ordered_xor b a))) e)
 
 pub xor_of-turned : (a b : Term) → xor_of a b ≡ xor_of b a
@@ -47,14 +39,6 @@ xor_of-turned a b =
     (same_or_not b Zero))
     (same_or_not a Zero))
     (same_or_not a b)
-
-ordered_and-turned : (a b : Term) → (a ≡ b → ⊥) → ordered_and a b ≡ ordered_and b a
-ordered_and-turned a b other = by (term_cmp a b) refl
-  where
-    by : (o : Ordering) → term_cmp a b ≡ o → ordered_and a b ≡ ordered_and b a
-    by Less e = ordered_and-Less a b e ∙ sym (ordered_and-Greater b a (cmp_antisymm b a ∙ ap ordering_reverse e))
-    by Greater e = ordered_and-Greater a b e ∙ sym (ordered_and-Less b a (cmp_antisymm b a ∙ ap ordering_reverse e))
-    by Equal e = absurd (other (cmp_exact a b e))
 
 and_of-turned_zero : (a b : Term) → a ≡ Zero → and_of a b ≡ and_of b a
 and_of-turned_zero a b left =
@@ -72,7 +56,7 @@ and_of-turned a b =
     (λ one'. and_of-one_right a b left right one one' ∙ sym (and_of-one_left b a right left one'))
     (λ one'. ⊎_elim
     (λ same. and_of-same a b left right one one' same ∙ same ∙ sym (and_of-same b a right left one' one (sym same)))
-    (λ other. and_of-other a b left right one one' other ∙ ordered_and-turned a b other ∙ sym (and_of-other b a right left one' one (λ e. other (sym e))))
+    (λ other. and_of-other a b left right one one' other ∙ ordered_gate-turned gate.And a b other ∙ sym (and_of-other b a right left one' one (λ e. other (sym e))))
     (same_or_not a b))
     (same_or_not b One))
     (same_or_not a One))

@@ -1,7 +1,6 @@
 -- Counts of numbers below a number, and of live parents.
-use Rattle.std.proofs.Common.{◌≡◌, ℕ, zero, suc, ◌+◌, ◌<◌, ◌≤◌, Bool, true, false, not, ◌&&◌, if◌then◌else◌, List, length, replicate, slice_index_or, refl, sym, ap, ◌∙◌, subst, arith, add-zero, ⊎_elim}
+use Rattle.std.proofs.Common.{◌≡◌, ℕ, zero, suc, ◌+◌, ◌<◌, ◌≤◌, Bool, true, false, not, ◌&&◌, if◌then◌else◌, List, length, slice_index_or, refl, sym, ap, ◌∙◌, subst, arith, add-zero, ⊎_elim}
 use Rattle.std.proofs.lemmas.Bool.{cases_Bool, cond-true, cond-false}
-use Rattle.std.proofs.lemmas.List.{length-replicate, get_or-replicate}
 use Rattle.expr_table.specs.declared.node.Node.{Node}
 use Rattle.expr_table.specs.Table.{node_at, sides, has}
 use Rattle.once_random.specs.Numbers.{count_below}
@@ -50,12 +49,6 @@ module _ (nodes : List Node) (live cut : List Bool) where
       subst (Counted parents) (sym is) (λ a lt.
       let z : (if is_counted a row then 1 else 0) ≡ 0 = ap (λ b. (if b && has (sides (node_at nodes row)) a then 1 else 0)) fails in
       before a lt ∙ sym (add-zero (count_below row (is_counted a))) ∙ sym (ap (λ k. count_below row (is_counted a) + k) z))
-
-  pub nothing_counted : (parents : List ℕ) (n : ℕ) → parents ≡ replicate n 0 → Counted parents 0
-  nothing_counted parents n is a lt =
-      let len : length parents ≡ n = ap length is ∙ length-replicate {A = ℕ} n 0 in
-      let lt' : a < n = omega arith in
-      ap (λ ps. slice_index_or ps a 0) is ∙ get_or-replicate n a 0 0 lt'
 
   -- the counts are those of the live parents
   pub all_counted : (roots cuts : List ℕ) (parents : List ℕ) (k : ℕ) → k ≡ length nodes → length live ≡ length nodes → length cut ≡ length nodes

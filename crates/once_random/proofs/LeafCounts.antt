@@ -1,9 +1,8 @@
 -- Counts of live leaves, leaf by leaf.
-use Rattle.std.proofs.Common.{◌≡◌, ℕ, zero, suc, ◌+◌, ◌<◌, ◌≤◌, nat_le, Bool, true, false, ◌&&◌, if◌then◌else◌, List, length, replicate, Option, None, Some, IfSome, slice_index_or, refl, sym, ap, ◌∙◌, subst, arith, add-zero, ⊎_elim}
+use Rattle.std.proofs.Common.{◌≡◌, ℕ, zero, suc, ◌+◌, ◌<◌, ◌≤◌, nat_le, Bool, true, false, ◌&&◌, if◌then◌else◌, List, length, Option, None, Some, IfSome, slice_index_or, refl, sym, ap, ◌∙◌, subst, arith, add-zero, ⊎_elim}
 use Rattle.std.proofs.lemmas.Bool.{and_right, cases_Bool, both_ways}
 use Rattle.expr_table.specs.declared.instance.Instance.{Instance}
 use Rattle.once_random.specs.Live.{is_live}
-use Rattle.std.proofs.lemmas.List.{length-replicate, get_or-replicate}
 use Rattle.once_random.specs.Numbers.{all_below, count_below}
 use Rattle.once_random.specs.Groups.{is_group, is_in_group, live_leaves, is_within}
 use Rattle.bit_rows.specs.Sets.{is_in, Marks}
@@ -16,12 +15,6 @@ module _ (groups : List (Option ℕ)) (live : List Bool) where
 
   abbrev pub IsCounted : List ℕ → ℕ → Type 0
   IsCounted counts i = (group : ℕ) → group < length counts → slice_index_or counts group 0 ≡ count_below i (counts_leaf group)
-
-  pub none_counted : (counts : List ℕ) (n : ℕ) → counts ≡ replicate n 0 → IsCounted counts 0
-  none_counted counts n is group lt =
-      let len : length counts ≡ n = ap length is ∙ length-replicate {A = ℕ} n 0 in
-      let lt' : group < n = omega arith in
-      ap (λ cs. slice_index_or cs group 0) is ∙ get_or-replicate n group 0 0 lt'
 
   and_live : (b l : Bool) → l ≡ true → (b && l) ≡ b
   and_live true l is = is

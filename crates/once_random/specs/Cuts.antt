@@ -1,13 +1,22 @@
 -- Cuts: a row that adds a random used nowhere else is as good as that random, and is read no further (optimistic
 -- sampling; Barthe et al., EUROCRYPT 2015). Lists of cuts have the latest cut first.
 use Rattle.std.specs.Prelude.{ℕ, ◌==◌, zero, suc, Bool, true, false, not, ◌&&◌, ◌||◌, IsTrue, IsFalse}
-use Rattle.std.specs.Prelude.{List, [], ◌∷◌, length, Option}
+use Rattle.std.specs.Prelude.{◌<◌, List, [], ◌∷◌, length, reverse, All, Option}
 use Rattle.std.specs.Option.{option_map_or}
 use Rattle.expr_table.specs.declared.node.Node.{Node}
 use Rattle.expr_table.specs.declared.node.Node.TheVariants as node
-use Rattle.expr_table.specs.Table.{node_at, has}
+use Rattle.expr_table.specs.declared.node.Row.{Row}
+use Rattle.expr_table.specs.Table.{Table, node_at, has, numbers}
 use Rattle.once_random.specs.Numbers.{all_below, least_below}
 use Rattle.once_random.specs.Live.{is_live, is_live_parent}
+
+-- rows that are cut one after another, as a list of cuts: the latest stands first
+abbrev pub cuts_of : List Row → List ℕ
+cuts_of rows = reverse (numbers rows)
+
+-- these are rows of the table
+abbrev pub AreWithin : Table → List Row → Type 0
+AreWithin t rows = All (λ (row : Row). row.0 < length t.nodes) rows
 
 -- a random leaf
 abbrev pub is_random : Node → Bool

@@ -1,21 +1,11 @@
 -- What the engine keeps for each row while it cuts, and what it says of roots and cuts.
-use Rattle.std.specs.Prelude.{ℕ, ◌≡◌, ◌<◌, List, length, reverse, All}
+use Rattle.std.specs.Prelude.{ℕ, ◌≡◌, List, length}
 use Rattle.expr_table.specs.declared.node.Node.{Node}
-use Rattle.expr_table.specs.declared.node.Row.{Row}
-use Rattle.expr_table.specs.Table.{Table, has, numbers}
+use Rattle.expr_table.specs.Table.{has}
 use Rattle.once_random.specs.declared.cutting.Cutting.{Cutting}
 use Rattle.once_random.specs.Live.{is_live, is_live_parent}
-use Rattle.once_random.specs.Numbers.{count_below}
+use Rattle.once_random.specs.Numbers.{count_below, Counts}
 use Rattle.bit_rows.specs.Sets.{Marks}
-use Rattle.once_random.specs.Numbers.{Counts}
-
--- cuts in the order in which they are made, with the latest first
-abbrev pub cuts_of : List Row → List ℕ
-cuts_of rows = reverse (numbers rows)
-
--- these are rows of the table
-abbrev pub AreWithin : Table → List Row → Type 0
-AreWithin t rows = All (λ (row : Row). row.0 < length t.nodes) rows
 
 -- how many live parents the row has
 abbrev pub live_parents : List Node → List ℕ → List ℕ → ℕ → ℕ

@@ -2,7 +2,7 @@
 ghost use Rattle.std.specs.Prelude.{◌≡◌, IfOk, length};
 ghost use Rattle.expr_table.specs.Instance.{IsFitting};
 ghost use Rattle.once_random.specs.Cuts as cuts;
-ghost use Rattle.once_random.specs.Cutting.{AreWithin, cuts_of};
+ghost use Rattle.once_random.specs.Cuts.{AreWithin, cuts_of};
 ghost use Rattle.once_random.specs.Groups.{is_within};
 ghost use Rattle.bit_rows.specs.Sets.{members};
 ghost use Rattle.once_random.specs.Tuples.{is_proved, roots_of};

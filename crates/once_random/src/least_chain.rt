@@ -1,8 +1,8 @@
 //! The least chain.
 ghost use Rattle.std.specs.Prelude.{◌≡◌, ℕ, List, IfOk, length};
 ghost use Rattle.expr_table.specs.Table.{has};
-ghost use Rattle.once_random.specs.Cuts.{least_chain};
-ghost use Rattle.once_random.specs.Cutting.{AreWithin, HasRows, cuts_of};
+ghost use Rattle.once_random.specs.Cuts.{least_chain, AreWithin, cuts_of};
+ghost use Rattle.once_random.specs.Cutting.{HasRows};
 ghost use Rattle.bit_rows.specs.Sets.{Marks};
 
 use crate::NoMemory;

@@ -1,7 +1,8 @@
 //! Marks of the live rows.
 ghost use Rattle.std.specs.Prelude.{◌≡◌, ◌<◌, ◌||◌, ℕ, List, IsTrue, length};
 ghost use Rattle.expr_table.specs.Table.{has, sides};
-ghost use Rattle.once_random.specs.Cutting.{AreWithin, HasRows, IsShownLive, KeepsSets, Shows, cuts_of};
+ghost use Rattle.once_random.specs.Cutting.{HasRows, IsShownLive, KeepsSets, Shows};
+ghost use Rattle.once_random.specs.Cuts.{AreWithin, cuts_of};
 ghost use Rattle.once_random.specs.Live.{is_live};
 ghost use Rattle.bit_rows.specs.Sets.{Marks, is_in};
 

@@ -1,3 +1,4 @@
+//! The structural order of rows.
 ghost use Rattle.std.specs.Prelude.{◌≡◌, ◌≢◌, ◌<◌, length};
 ghost use Rattle.expr_table.specs.Table.{terms, term_at};
 ghost use Rattle.expr_table.specs.Term.{term_cmp};

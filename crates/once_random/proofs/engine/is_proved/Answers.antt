@@ -1,7 +1,6 @@
 use Rattle.std.proofs.Common.{◌∙◌, List, ℕ, ap}
 use Rattle.expr_table.specs.declared.node.Row.{Row}
-use Rattle.once_random.specs.Cuts.{least_chain}
-use Rattle.once_random.specs.Cutting.{cuts_of}
+use Rattle.once_random.specs.Cuts.{least_chain, cuts_of}
 use Rattle.once_random.specs.Groups.{is_within}
 use Rattle.once_random.specs.Provable.{is_provable}
 use Rattle.bit_rows.specs.Sets.{members}

@@ -2,8 +2,8 @@ use Rattle.std.proofs.Common.{◌≡◌, ◌<◌, ◌+◌, ◌-◌, ◌∷◌, [
 use Rattle.std.proofs.lemmas.List.Elements.{All-push}
 use Rattle.expr_table.specs.declared.node.Row.{Row}
 use Rattle.expr_table.specs.Table.{has}
-use Rattle.once_random.specs.Cuts.{least_after, least_chain}
-use Rattle.once_random.specs.Cutting.{Shows, cuts_of}
+use Rattle.once_random.specs.Cuts.{least_after, least_chain, cuts_of}
+use Rattle.once_random.specs.Cutting.{Shows}
 use Rattle.bit_rows.specs.Sets.{Marks}
 use Rattle.once_random.proofs.Chains.{least_after-none, least_after-some, latest_first}
 use Rattle.once_random.proofs.Shown.{Shows-kept}

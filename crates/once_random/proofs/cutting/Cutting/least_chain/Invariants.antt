@@ -1,7 +1,7 @@
 use Rattle.std.proofs.Common.{◌≡◌, ◌-◌, List, ℕ, length}
 use Rattle.expr_table.specs.Table.{has}
-use Rattle.once_random.specs.Cuts.{least_after, least_chain}
-use Rattle.once_random.specs.Cutting.{AreWithin, HasRows, Shows, cuts_of}
+use Rattle.once_random.specs.Cuts.{least_after, least_chain, AreWithin, cuts_of}
+use Rattle.once_random.specs.Cutting.{HasRows, Shows}
 use Rattle.bit_rows.specs.Sets.{Marks}
 use Rattle.once_random.proofs.cutting.Cutting.least_chain.Given as goal
 

@@ -1,7 +1,7 @@
 use Rattle.std.proofs.Common.{◌≡◌, ◌<◌, ◌||◌, Bool, true, false, refl, List, length, arith, sym, ap, ◌∙◌, subst}
 use Rattle.std.proofs.lemmas.List.{with_items_is}
 use Rattle.expr_table.specs.Table.{has, numbers}
-use Rattle.once_random.specs.Cutting.{cuts_of}
+use Rattle.once_random.specs.Cuts.{cuts_of}
 use Rattle.bit_rows.specs.Sets.{is_in, Marks}
 use Rattle.once_random.proofs.Chains.{has-reverse}
 use Rattle.once_random.proofs.cutting.Cutting.mark_live_after.Goals as goal
