@@ -1,7 +1,7 @@
 -- What interning a term that has a row already, or has none, answers.
 use Rattle.std.proofs.Common.{Ok, Err, refl, sym, ◌∙◌, true≢false}
 use Rattle.expr_table.specs.declared.node.Row.{Row}
-use Rattle.expr_table.specs.declared.table.TermStop.TheVariants.{TooManyTerms, NoMemory}
+use Rattle.expr_table.specs.declared.table.TermStop.TheVariants.{TooManyTerms}
 use Rattle.expr_table.specs.Term.{Term}
 use Rattle.expr_table.specs.Table.{Table, IsTable, IsRowOf, IsNew, IsFull, terms}
 use Rattle.expr_table.specs.Interning.{Interns}
@@ -24,14 +24,3 @@ module _ (t : Table) (table : IsTable t) (s : Term) where
   pub Interns-full : IsNew t s → IsFull t → Interns s t t (Err TooManyTerms)
   Interns-full new full =
       record { row = tt; terms = tt; kept = Extends-self t; table = table; stopped = refl; too_many = (λ e. (new, full), λ p. refl); no_memory = λ e. cc }
-
-  pub Interns-refused : IsNew t s → (IsFull t → ⊥) → Interns s t t (Err NoMemory)
-  Interns-refused new room = record {
-    row = tt;
-    terms = tt;
-    kept = Extends-self t;
-    table = table;
-    stopped = refl;
-    too_many = (λ e. cc, λ p. absurd (room p.1));
-    no_memory = λ e. new;
-  }

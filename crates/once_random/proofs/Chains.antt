@@ -1,13 +1,13 @@
 -- Steps of the least chain, and sets that grow.
-use Rattle.std.proofs.Common.{◌≡◌, ℕ, zero, suc, ◌<◌, Bool, true, false, ◌||◌, ◌==◌, List, [], ◌∷◌, ◌++◌, length, reverse, replicate, set, Some, None, refl, sym, ap, ◌∙◌, arith, ⊎_elim, get_or-set_same, get_or-set_other, length-set}
+use Rattle.std.proofs.Common.{◌≡◌, ℕ, zero, suc, ◌<◌, Bool, true, false, ◌||◌, ◌==◌, List, [], ◌∷◌, ◌++◌, length, reverse, set, Some, None, refl, sym, ap, ◌∙◌, ⊎_elim, get_or-set_same, get_or-set_other}
 use Rattle.std.proofs.lemmas.Bool.{cases_eq, eq-eqb, ne_eqb}
-use Rattle.std.proofs.lemmas.List.{reverse-append, map-append, get_or-replicate, length-replicate}
+use Rattle.std.proofs.lemmas.List.{reverse-append, map-append}
 use Rattle.std.specs.Option.{option_map_or}
 use Rattle.expr_table.specs.declared.node.Node.{Node}
 use Rattle.expr_table.specs.declared.node.Row.{Row}
 use Rattle.expr_table.specs.Table.{has, numbers}
 use Rattle.once_random.specs.Cuts.{least_after, next_cut}
-use Rattle.bit_rows.specs.Sets.{is_in, Marks}
+use Rattle.bit_rows.specs.Sets.{is_in}
 use Rattle.once_random.proofs.Marking.{has-++}
 
 module _ (nodes : List Node) (roots done : List ℕ) where
@@ -43,13 +43,3 @@ marked_one flags e lt i =
     (λ same. ap (is_in (set flags e true)) (sym same) ∙ get_or-set_same flags e true false lt ∙ sym (ap (λ b. b || is_in flags i) (eq-eqb e i same)))
     (λ other. get_or-set_other flags e i true false (λ q. other (sym q)) ∙ sym (ap (λ b. b || is_in flags i) (ne_eqb e i other)))
     (cases_eq e i)
-
-pub Marks-more : (flags : List Bool) (rows : List ℕ) (e : ℕ) → e < length flags → Marks flags (has rows) → Marks (set flags e true) (has (e ∷ rows))
-Marks-more flags rows e lt marks i l =
-    let l' : i < length flags = omega (arith, length-set flags e true) in
-    marked_one flags e lt i ∙ ap (λ b. (e == i) || b) (marks i l')
-
-pub Marks-none : (flags : List Bool) (n : ℕ) → flags ≡ replicate n false → Marks flags (has [])
-Marks-none flags n is i l =
-    let len : length flags ≡ n = ap length is ∙ length-replicate {A = Bool} n false in
-    ap (λ f. is_in f i) is ∙ get_or-replicate n i false false (omega arith)
