@@ -1,0 +1,3 @@
+pub mod Formula
+pub mod Cells
+pub mod Names
