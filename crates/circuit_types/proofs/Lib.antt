@@ -1,0 +1,2 @@
+pub mod DueOnce
+pub mod Folds
