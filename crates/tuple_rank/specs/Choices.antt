@@ -13,6 +13,11 @@ choose n zero = 1
 choose zero (suc k) = 0
 choose (suc n) (suc k) = choose n k + choose n (suc k)
 
+-- in how many ways 1 to t of n things are chosen
+abbrev pub choose_to : ℕ → ℕ → ℕ
+choose_to n zero = 0
+choose_to n (suc t) = choose_to n t + choose n (suc t)
+
 -- the binomial number is the number of ways to choose
 abbrev pub ChoicesAreCounted : Type 0
 ChoicesAreCounted = (k : ℕ) (xs : List ℕ) → length (choices k xs) ≡ choose (length xs) k

@@ -1,0 +1,5 @@
+pub mod Choosing
+pub mod Places
+pub mod Order
+pub mod Rows
+pub mod Placing
