@@ -233,6 +233,18 @@ each-is_subset xs ys each = list_all-from_All (is_in ys) (members xs) (All-weake
     list_all-from_All p [] h = refl
     list_all-from_All p (m ∷ ms) h = and_from (p m) (list_all p ms) (All-head (λ m. p m ≡ true) m ms h) (list_all-from_All p ms (All-tail (λ m. p m ≡ true) m ms h))
 
+pub is_subset-itself : (xs : List Bool) → is_subset xs xs ≡ true
+is_subset-itself xs = each-is_subset xs xs (λ i is. is)
+
+-- sets of one length are equal where each is a subset of the other
+pub subsets_same : (xs ys : List Bool) → length xs ≡ length ys → is_subset xs ys ≡ true → is_subset ys xs ≡ true → xs ≡ ys
+subsets_same xs ys len there back =
+    same_sets xs ys len (λ i _.
+    ⊎_elim
+    (λ inside. inside ∙ sym (is_subset-each xs ys there i inside))
+    (λ out. out ∙ sym (false_from_ne_true (is_in ys i) (λ is. both_ways (is_in xs i) out (is_subset-each ys xs back i is))))
+    (cases_Bool (is_in xs i)))
+
 -- a set with a number outside the other is no subset
 pub not_subset : (xs ys : List Bool) (i : ℕ) → is_in xs i ≡ true → is_in ys i ≡ false → is_subset xs ys ≡ false
 not_subset xs ys i x y = false_from_ne_true (is_subset xs ys) (λ is. both_ways (is_in ys i) y (is_subset-each xs ys is i x))
@@ -334,3 +346,6 @@ members-none_from flags start none =
 -- there is no member between a number and the least one from it on
 pub members_below-least : (flags : List Bool) (start i : ℕ) → IsLeastFrom flags start i → members_below flags i ≡ members_below flags start
 members_below-least flags start i least = members_below-none flags start i least.from least.before
+
+-- the lengths of sets, for the list of a tactic or of a function's attribute
+pub ruleset lengths = (length-set_of)

@@ -1,24 +1,30 @@
 ghost use Rattle.std.specs.Prelude.{◌≡◌, ◌<◌, ◌^◌, ◌↔◌, IsTrue, false, true, length, replicate, slice_set, nat_le, find, IfOk};
 ghost use Rattle.bit_rows.specs.Sets.{is_in, members, union, minus, meet, is_subset, first_member, next_member};
 
-use crate::NoMemory;
+#[cfg(test)]
+mod tests;
+
+use crate::{NoMemory, words};
 use std::alloc::Global;
 use std::marker::Model;
 
 /// A set of numbers below its length; contracts see one flag for each number.
 #[derive(Drop)]
 pub struct BitRow {
-    flags: Vec<bool>,
+    len: u32,
+    words: Vec<u64>,
 }
 
 impl Model for BitRow {
-    ghost use Rattle.std.specs.Prelude.{Bool, List, ◌<◌, ◌^◌, length};
+    ghost use Rattle.std.specs.Prelude.{Bool, List};
+    ghost use Rattle.bit_rows.specs.Sets.{set_of};
+    ghost use Rattle.bit_rows.specs.Words.{bit_of, IsRow};
 
     ghost Value = { List Bool };
 
-    ghost view = { λ row. row.flags.items };
+    ghost view = { λ row. set_of row.len (bit_of row.words.items) };
 
-    ghost invariant = { λ row. length row.flags.items < 2 ^ 32 };
+    ghost invariant = { λ row. IsRow row.len row.words.items };
 }
 
 impl BitRow {
@@ -26,23 +32,26 @@ impl BitRow {
     pub fn make(alloc: Global, n: u32) -> Result<BitRow, NoMemory>
         ensures { IfOk result (λ row. row ≡ replicate n false) }
     {
-        let flags = vec![in alloc; false; n as usize]?;
-        Ok(BitRow { flags })
+        let words = vec![in alloc; 0; (n as usize).div_ceil(64)]?;
+        Ok(BitRow { len: n, words })
     }
 
     /// A set with the same members.
     pub fn copy(&self) -> Result<BitRow, NoMemory>
         ensures { IfOk result (λ row. row ≡ self.now) }
     {
-        let flags = self.flags.clone()?;
-        Ok(BitRow { flags })
+        let words = self.words.clone()?;
+        Ok(BitRow {
+            len: self.len,
+            words,
+        })
     }
 
     /// One more than the greatest number that the set can hold.
     pub fn len(&self) -> u32
         ensures { result ≡ length self.now }
     {
-        self.flags.len() as u32
+        self.len
     }
 
     /// Adds `i`.
@@ -50,7 +59,7 @@ impl BitRow {
         requires { i < length self.old }
         ensures { self.new ≡ slice_set self.old i true }
     {
-        self.flags[i as usize] = true;
+        words::set(&mut self.words, i);
     }
 
     /// Takes `i` out.
@@ -58,7 +67,7 @@ impl BitRow {
         requires { i < length self.old }
         ensures { self.new ≡ slice_set self.old i false }
     {
-        self.flags[i as usize] = false;
+        words::clear(&mut self.words, i);
     }
 
     /// Whether `i` is in the set.
@@ -66,7 +75,7 @@ impl BitRow {
         requires { i < length self.now }
         ensures { result ≡ is_in self.now i }
     {
-        self.flags[i as usize]
+        words::get(&self.words, i)
     }
 
     /// Adds the members of the other set.
@@ -74,10 +83,7 @@ impl BitRow {
         requires { length self.old ≡ length other.now }
         ensures { self.new ≡ union self.old other.now }
     {
-        let _ = &self.flags;
-        for i in 0..self.flags.len() {
-            self.flags[i] = self.flags[i] || other.flags[i];
-        }
+        words::set_all(&mut self.words, &other.words);
     }
 
     /// Takes the members of the other set out.
@@ -85,9 +91,7 @@ impl BitRow {
         requires { length self.old ≡ length other.now }
         ensures { self.new ≡ minus self.old other.now }
     {
-        for i in 0..self.flags.len() {
-            self.flags[i] = self.flags[i] && !other.flags[i];
-        }
+        words::clear_all(&mut self.words, &other.words);
     }
 
     /// Keeps those members alone that the other set has.
@@ -95,9 +99,7 @@ impl BitRow {
         requires { length self.old ≡ length other.now }
         ensures { self.new ≡ meet self.old other.now }
     {
-        for i in 0..self.flags.len() {
-            self.flags[i] = self.flags[i] && other.flags[i];
-        }
+        words::clear_others(&mut self.words, &other.words);
     }
 
     /// Whether the other set has each member of this one.
@@ -105,43 +107,37 @@ impl BitRow {
         requires { length self.now ≡ length other.now }
         ensures { result ≡ is_subset self.now other.now }
     {
-        let mut inside = true;
-        for i in 0..self.flags.len() {
-            inside = inside && (!self.flags[i] || other.flags[i]);
-        }
-        inside
+        words::are_within(&self.words, &other.words)
     }
 
     /// Whether both sets have the same length and the same members.
     pub fn same(&self, other: &BitRow) -> bool
         ensures { IsTrue result ↔ (self.now ≡ other.now) }
     {
-        self.flags.as_slice() == other.flags.as_slice()
+        if self.len() != other.len() {
+            return false;
+        }
+        self.is_subset(other) && other.is_subset(self)
     }
 
     /// The number of members.
     pub fn count(&self) -> u32
         ensures { result ≡ length (members self.now) }
     {
-        let mut count = 0u32;
-        for i in 0..self.flags.len() {
-            if self.flags[i] {
-                count += 1;
-            }
-        }
-        count
+        words::count(&self.words) as u32
     }
 
     /// The least member that is at least `start`, if there is one.
     fn from(&self, start: usize) -> Option<u32>
         ensures { result ≡ find (λ i. nat_le start i) (members self.now) }
     {
-        for i in 0..self.len() {
-            if start <= i as usize && self.get(i) {
-                return Some(i);
-            }
+        if start >= self.len as usize {
+            return None;
         }
-        None
+        match words::first_from(&self.words, start) {
+            Some(i) => Some(i as u32),
+            None => None,
+        }
     }
 
     /// The least member; None exactly where the set is empty.
@@ -156,26 +152,5 @@ impl BitRow {
         ensures { result ≡ next_member self.now after }
     {
         self.from(after as usize + 1)
-    }
-}
-
-#[cfg(test)]
-mod tests {
-    use super::*;
-    use std::test::Fail;
-
-    #[test]
-    fn reads_its_members_in_order(rt: HostRuntime) -> Result<(), Fail> {
-        let mut row = BitRow::make(rt.alloc(), 130)?;
-        row.set(0);
-        row.set(129);
-        let copy = row.copy()?;
-        assert!(rt; copy.same(&row));
-        assert_eq!(rt;
-            [copy.first(), copy.next(0), copy.next(129)],
-            [Some(0), Some(129), None]
-        );
-        assert_eq!(rt; copy.count(), 2);
-        Ok(())
     }
 }

@@ -1,13 +1,15 @@
 //! Sets of numbers below a length, as rows of bits.
 //!
 //! A [`BitRow`] is made for a length and holds any of the numbers below it. Contracts see it as one flag
-//! for each number. Sets of equal length are joined, cut and compared, and a set's members are read in
-//! ascending order.
+//! for each number; it is kept as words of 64 bits, whose bits to spare are zero, so that equal sets have
+//! equal words. Sets of equal length are joined, cut and compared a word at a time, and a set's members
+//! are read in ascending order.
 #![tactic(auto)]
 
 use std::alloc::AllocError;
 
 mod bit_row;
+mod words;
 
 pub use bit_row::BitRow;
 

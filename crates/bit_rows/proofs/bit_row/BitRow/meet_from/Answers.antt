@@ -1,6 +1,42 @@
-use Rattle.std.proofs.Common.{arith}
-use Rattle.bit_rows.proofs.Facts.{set_of_is}
+use Rattle.std.proofs.Common.{◌≡◌, List, ℕ, ◌&&◌, ◌++◌, take, drop, sym, ap, ◌∙◌, subst, length}
+use Rattle.bit_rows.specs.Sets.{set_of, meet}
+use Rattle.bit_rows.specs.Words.{bit_of, IsRow}
+use Rattle.bit_rows.proofs.Rows.{same_lengths, same_word_count, written_back, meet-row, meet-set}
 use Rattle.bit_rows.proofs.bit_row.BitRow.meet_from.Goals as goal
 
+-- the words of either set as they were
+abbrev xs : goal.After-self-1 → List ℕ
+xs c = c.self.inside.words.items
+
+abbrev ys : goal.After-self-1 → List ℕ
+ys c = c.other.inside.words.items
+
+same : (c : goal.After-self-1) → c.self.inside.len ≡ c.other.inside.len
+same c = same_lengths c.self.inside.len c.other.inside.len (xs c) (ys c) c.args.self.now c.args.other.now c.self.view_is c.other.view_is c.requires
+
+pub clear_others-requires : goal.clear_others-requires
+clear_others-requires c =
+    let same_len : c.self.inside.len ≡ c.other.inside.len = same_lengths c.self.inside.len c.other.inside.len c.self.inside.words.items c.other.inside.words.items c.args.self.now c.args.other.now c.self.view_is c.other.view_is c.requires in
+    ap (λ (ws : List ℕ). length ws) c.deref_mut.ensures.value
+    ∙ same_word_count c.self.inside.len c.other.inside.len c.self.inside.words.items c.other.inside.words.items c.self.invariant c.other.invariant same_len
+    ∙ sym (ap (λ (ws : List ℕ). length ws) c.deref.ensures.value)
+
+same_len : (c : goal.After-self-1) → length c.clear_others.new.words ≡ length (xs c)
+same_len c = c.clear_others.auto.words ∙ ap (λ (ws : List ℕ). length ws) c.deref_mut.ensures.value
+
+back : (c : goal.After-self-1) → take c.self.inside.words.len (c.clear_others.new.words ++ drop (length c.clear_others.new.words) (xs c)) ≡ c.clear_others.new.words
+back c = written_back c.self.inside.words.len c.clear_others.new.words (xs c) (c.clear_others.auto.words ∙ c.deref_mut.ensures.len)
+
+each : (c : goal.After-self-1) → (i : ℕ) → bit_of c.clear_others.new.words i ≡ (bit_of (xs c) i && bit_of (ys c) i)
+each c i = c.clear_others.ensures i ∙ ap (λ ws. bit_of ws i && bit_of c.deref.result.now i) c.deref_mut.ensures.value ∙ ap (λ ws. bit_of (xs c) i && bit_of ws i) c.deref.ensures.value
+
+pub invariant_of-self : goal.invariant_of-self
+invariant_of-self c =
+    subst (IsRow c.self.inside.len) (sym (back c)) (meet-row c.self.inside.len c.other.inside.len (xs c) (ys c) c.clear_others.new.words c.self.invariant c.other.invariant (same c) (same_len c) (each c))
+
 pub returns : goal.returns
-returns c = rw (← c.self.view_is, ← c.other.view_is) (set_of_is _ _ _ c.loop-i.invariant.len (λ i lt. c.loop-i.invariant.done i (omega arith)))
+returns c =
+    ap (λ ws. set_of c.self.inside.len (bit_of ws)) (back c)
+    ∙ meet-set c.self.inside.len c.other.inside.len (xs c) (ys c) c.clear_others.new.words c.self.invariant c.other.invariant (same c) (same_len c) (each c)
+    ∙ ap (λ flags. meet flags (set_of c.other.inside.len (bit_of (ys c)))) c.self.view_is
+    ∙ ap (meet c.args.self.now) c.other.view_is
