@@ -1,3 +1,4 @@
+//! A set of numbers, in words of 64 bits.
 ghost use Rattle.std.specs.Prelude.{◌≡◌, ◌<◌, ◌^◌, ◌↔◌, IsTrue, false, true, length, replicate, slice_set, nat_le, find, IfOk};
 ghost use Rattle.bit_rows.specs.Sets.{is_in, members, union, minus, meet, is_subset, first_member, next_member};
 

@@ -6,12 +6,8 @@
 //! are read in ascending order.
 #![tactic(auto)]
 
-use std::alloc::AllocError;
-
 mod bit_row;
 mod words;
 
 pub use bit_row::BitRow;
-
-/// Memory was refused.
-pub type NoMemory = AllocError;
+pub use sequences::NoMemory;

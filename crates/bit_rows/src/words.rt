@@ -1,3 +1,4 @@
+//! The bits of words of 64 bits, counted from the lowest bit of the first word on.
 ghost use Rattle.std.specs.Prelude.{◌≡◌, ◌≢◌, ◌*◌, ◌<◌, ◌^◌, ◌↔◌, ◌&&◌, ◌||◌, ℕ, IsTrue, MatchOption, not, false, true, length};
 ghost use Rattle.bit_rows.specs.Sets.{members};
 ghost use Rattle.bit_rows.specs.Words.{bit_of, bits, IsFirstBit, NoBitFrom};

@@ -6,8 +6,6 @@
 //! each probe sees, and the groups of the input leaves.
 #![tactic(auto)]
 
-use std::alloc::AllocError;
-
 mod instance;
 mod laws;
 mod node;
@@ -19,7 +17,5 @@ pub use laws::{
     terms_give_nodes,
 };
 pub use node::{Node, Row};
+pub use sequences::NoMemory;
 pub use table::{ExprTable, MOST_ROWS, TermStop};
-
-/// Memory was refused.
-pub type NoMemory = AllocError;

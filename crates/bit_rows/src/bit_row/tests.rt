@@ -1,3 +1,4 @@
+//! Sets of lengths round the size of a word and of the longest length.
 ghost use Rattle.std.specs.Prelude.{◌≡◌, ◌<◌, length, IfOk};
 
 use super::*;
@@ -75,5 +76,13 @@ fn joins_and_cuts_sets_of_any_length(rt: HostRuntime) -> Result<(), Fail> {
         assert_eq!(rt; either.next(3), if n > 9 { Some(9) } else { None });
         assert_eq!(rt; two.next(n), None);
     }
+    Ok(())
+}
+
+fn crosses_threads<T: Send + Sync>(_: &T) {}
+
+#[test]
+fn may_be_moved_and_shared_between_threads(rt: HostRuntime) -> Result<(), Fail> {
+    crosses_threads(&BitRow::make(rt.alloc(), 1)?);
     Ok(())
 }
