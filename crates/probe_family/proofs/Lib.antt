@@ -1,0 +1,13 @@
+pub mod Bits
+pub mod Members
+pub mod Takes
+pub mod Ranges
+pub mod Weights
+pub mod First
+pub mod Rules
+pub mod Tuples
+pub mod AllTuples
+pub mod Over
+pub mod RootTuples
+pub mod Ascending
+pub mod Sorting

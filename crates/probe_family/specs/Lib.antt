@@ -1,0 +1,4 @@
+pub mod Families
+pub mod Choices
+pub mod Least
+pub mod Roots
