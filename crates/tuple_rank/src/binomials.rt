@@ -1,3 +1,4 @@
+//! The table that counts tuples.
 ghost use Rattle.std.specs.Prelude.{◌≡◌, ◌<◌, ◌≤◌, ◌^◌, ◌↔◌, IfOk, length};
 ghost use Rattle.tuple_rank.specs.Choices.{choose};
 ghost use Rattle.tuple_rank.specs.Tuples.{tuples};

@@ -1,3 +1,4 @@
+//! Why a count is refused.
 use std::alloc::AllocError;
 use thiserror::Error;
 

@@ -1,3 +1,4 @@
+//! Laws of the definitions. Each is the contract of a function that does nothing.
 ghost use Rattle.tuple_rank.specs.Choices.{ChoicesAreCounted};
 ghost use Rattle.tuple_rank.specs.Tuples.{TuplesAreAll, TuplesAscend, RankIsPlace, RankKeepsOrder};
 

@@ -1,3 +1,4 @@
+//! Pascal's triangle, a row at a time.
 ghost use Rattle.std.specs.Prelude.{◌≡◌, ◌<◌, ◌≤◌, ◌^◌, ◌↔◌, ℕ, ◌+◌, IfOk, IsTrue, length};
 ghost use Rattle.std.specs.Option.{SomeIff};
 ghost use Rattle.tuple_rank.specs.Choices.{choose_to};

@@ -1,3 +1,4 @@
+//! The totals at the limit of 2^62, and all ranks of a small case.
 use super::*;
 use std::test::Fail;
 
@@ -61,5 +62,13 @@ fn ranks_by_size_and_then_lexicographically(rt: HostRuntime) -> Result<(), Fail>
         ],
         [1, 10, 0]
     );
+    Ok(())
+}
+
+fn crosses_threads<T: Send + Sync>(_: &T) {}
+
+#[test]
+fn may_be_shared_between_threads(rt: HostRuntime) -> Result<(), Fail> {
+    crosses_threads(&Binomials::make(rt.alloc(), 1, 1)?);
     Ok(())
 }

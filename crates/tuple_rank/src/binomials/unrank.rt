@@ -1,3 +1,4 @@
+//! From a rank to its tuple.
 ghost use Rattle.std.specs.Prelude.{◌≡◌, ◌+◌, ◌-◌, ◌<◌, ◌≤◌, Some, length, slice_get};
 ghost use Rattle.std.specs.List.{range_with_len};
 ghost use Rattle.tuple_rank.specs.Choices.{choices, choose, choose_to};
