@@ -6,3 +6,13 @@ pub mod Signals
 pub mod Drives
 pub mod Reads
 pub mod Nets
+pub mod DataSources
+pub mod Order
+pub mod Found
+pub mod Value
+pub mod InputBits
+pub mod Held
+pub mod Causes
+pub mod Stable
+pub mod Probes
+pub mod Worlds
