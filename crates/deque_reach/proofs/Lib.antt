@@ -1,0 +1,6 @@
+pub mod Weights
+pub mod Kept
+pub mod Reached
+pub mod Rowed
+pub mod Made
+pub mod Drained

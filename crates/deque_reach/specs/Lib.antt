@@ -1,0 +1,9 @@
+pub mod Fits
+pub mod Counts
+pub mod Rule
+pub mod Steps
+pub mod Lanes
+pub mod Views
+pub mod Reaches
+pub mod Rows
+pub mod Ends
