@@ -1,3 +1,4 @@
+//! The kinds of cells as plain data.
 /// A cell: a gate, whose output follows its inputs, or a flip-flop, which keeps one bit.
 #[derive(Clone, Copy, Debug, PartialEq, Eq)]
 pub enum CellKind {

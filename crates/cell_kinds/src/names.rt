@@ -1,3 +1,4 @@
+//! From a name in the text to the kind of its cell.
 ghost use Rattle.std.specs.Prelude.{◌≡◌, ◌≢◌, ◌↔◌, ◌++◌, ℕ, List, Bool, true, false, IfSome, IfNone, MatchOption};
 ghost use Rattle.cell_kinds.specs.Cells.{gate, family, flop_name, cell_name};
 ghost use Rattle.cell_kinds.specs.Names.{level_of, bit_of, letters_of, reset_of, enable_of, flop_of as flop_of_letters, gate_named, kind_named};

@@ -1,3 +1,4 @@
+//! The ports of a cell.
 ghost use Rattle.std.specs.Prelude.{◌≡◌};
 ghost use Rattle.cell_kinds.specs.Cells.{gate, flop_inputs as flop_input_letters, input_letters, output_letter};
 

@@ -1,3 +1,4 @@
+//! The rows of the standard, each gate over all values of its inputs.
 use super::*;
 use std::process::Abort;
 use std::test::Fail;

@@ -1,3 +1,4 @@
+//! The value of a gate.
 ghost use Rattle.std.specs.Prelude.{◌≡◌, Bool, if◌then◌else◌, length};
 ghost use Rattle.cell_kinds.specs.Cells.{gate, gate_value};
 

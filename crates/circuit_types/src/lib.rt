@@ -35,8 +35,9 @@ pub use laws::{
 };
 pub use nets::{NetCell, NetWire, Nets, Pin, SignalBit, Source, source_of};
 pub use probes::{Model, Probe, Probes};
-pub use refusal::{NoMemory, Refusal, Stop, Which};
+pub use refusal::{Refusal, Stop, Which};
 pub use roles::{InputRole, OutputShare, Role, Roles, Secret};
+pub use sequences::NoMemory;
 pub use signal::{BitValue, Bits, Signal, Value};
 pub use top_module::top;
 pub use tree::{

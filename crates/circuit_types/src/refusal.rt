@@ -5,9 +5,6 @@ ghost use Rattle.circuit_types.specs.declared.refusal.Stop.TheVariants.{Refused,
 
 use std::alloc::{AllocError, AllocFailed};
 
-/// Memory was refused.
-pub type NoMemory = AllocError;
-
 /// What there is too much of.
 #[derive(Clone, Copy, Debug, PartialEq, Eq)]
 pub enum Which {

@@ -1,3 +1,4 @@
+//! Which module is the top one, by its attributes.
 use crate::{Attribute, BitValue, Bits, Module, Tree, Value, top};
 use sequences::Sequence;
 use std::alloc::{AllocError, Global};

@@ -1,3 +1,4 @@
+//! The least line of each cause of a refusal.
 ghost use Rattle.std.specs.Prelude.{◌≡◌, ◌<◌, ℕ, not, All, IfOk, length};
 ghost use Rattle.circuit_types.specs.Causes.{AtCell};
 ghost use Rattle.circuit_types.specs.DataSources.{cell_at, pin_sources, IsWired};

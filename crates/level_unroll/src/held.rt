@@ -1,3 +1,4 @@
+//! At what a bit is held, followed back through buffers and inverters.
 ghost use Rattle.std.specs.Prelude.{◌≡◌, ◌<◌, ℕ, not, All, IfOk, None, length, map, slice_index_or};
 ghost use Rattle.std.specs.Option.{option_map, option_and_then};
 ghost use Rattle.cell_kinds.specs.declared.kind.CellKind.TheVariants.{Gate};

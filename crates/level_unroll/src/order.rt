@@ -1,3 +1,4 @@
+//! The order in which cells are evaluated.
 ghost use Rattle.std.specs.Prelude.{◌≡◌, IfOk};
 ghost use Rattle.circuit_types.specs.DataSources.{IsWired};
 ghost use Rattle.circuit_types.specs.Order.{order};

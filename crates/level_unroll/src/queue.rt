@@ -1,3 +1,4 @@
+//! The cells that may come next, least number first.
 ghost use Rattle.std.specs.Prelude.{◌≡◌, ◌<◌, ℕ, ◌==◌, ◌&&◌, not, Bool, List, [], ◌∷◌, true, false, All, IfOk, IfSome, OnOk, MatchOption, IsFalse, length, map, slice_set, replicate};
 ghost use Rattle.circuit_types.specs.DataSources.{data_sources, pin_sources, IsWired};
 ghost use Rattle.circuit_types.specs.Order.{has, next_cell};

@@ -1,3 +1,4 @@
+//! Orders and refusals of small netlists made by hand.
 use crate::levels;
 use cell_kinds::kind_of;
 use circuit_types::{InputRole, NetCell, Nets, Pin, Refusal, Role, Roles, Source, Stop, Timing};

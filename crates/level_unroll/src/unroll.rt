@@ -1,3 +1,4 @@
+//! A netlist becomes a circuit, or is refused.
 ghost use Rattle.std.specs.Prelude.{◌≡◌, IfOk, MatchResult};
 ghost use Rattle.circuit_types.specs.Causes.{level_causes, IsRefusal};
 ghost use Rattle.circuit_types.specs.DataSources.{IsWired};

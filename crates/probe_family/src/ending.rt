@@ -1,3 +1,4 @@
+//! How the work on a family ends.
 use crate::family::Family;
 use bit_rows::BitRow;
 

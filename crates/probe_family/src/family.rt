@@ -1,3 +1,4 @@
+//! A family as a set of tuples.
 ghost use Rattle.std.specs.Prelude.{◌≡◌, ◌≤◌, ◌+◌, ◌++◌, ◌↔◌, IsTrue, IfOk, length};
 ghost use Rattle.probe_family.specs.Families.{IsFamily, is_tuple_of, total_take, weight_of};
 ghost use Rattle.probe_family.specs.Least.{least_of, least_of_part};

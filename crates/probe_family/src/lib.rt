@@ -6,8 +6,6 @@
 //! exactly one of them.
 #![tactic(auto)]
 
-use std::alloc::AllocError;
-
 mod choice;
 mod ending;
 mod family;
@@ -26,6 +24,4 @@ pub use laws::{
 };
 pub use part::{Part, Parts};
 pub use root_families::roots;
-
-/// Memory was refused.
-pub type NoMemory = AllocError;
+pub use sequences::NoMemory;

@@ -1,3 +1,4 @@
+//! The parts of a family, and their list.
 ghost use Rattle.std.specs.Prelude.{◌≡◌, ◌↔◌, IsTrue, IfOk};
 ghost use Rattle.bit_rows.specs.Sets.{is_in};
 ghost use Rattle.probe_family.specs.Families.{is_taken_from};

@@ -1,3 +1,4 @@
+//! The sets of probes that the roots take from.
 ghost use Rattle.std.specs.Prelude.{◌≡◌, ◌≤◌, IfOk, length, map, replicate, true};
 ghost use Rattle.expr_table.specs.declared.instance.ProbeRoots.{ProbeRoots};
 ghost use Rattle.probe_family.specs.Roots.{sets_of};

@@ -1,3 +1,4 @@
+//! The families that a search begins with.
 ghost use Rattle.std.specs.Prelude.{◌≡◌, ◌≤◌, ◌<◌, ◌-◌, ◌^◌, ◌++◌, IfOk, OnOk, All, length};
 ghost use Rattle.probe_family.specs.Families.{IsFamily};
 ghost use Rattle.probe_family.specs.Roots.{roots_of, roots_of_size};

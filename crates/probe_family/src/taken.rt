@@ -1,3 +1,4 @@
+//! Whether numbers are a tuple that takes from each part as it should.
 ghost use Rattle.std.specs.Prelude.{◌≡◌};
 ghost use Rattle.std.specs.List.{list_all};
 ghost use Rattle.probe_family.specs.Families.{are_taken, is_ascending, is_in_part, is_taken_from};

@@ -1,3 +1,4 @@
+//! Families over sets made by hand.
 use super::*;
 use crate::ending::{Closed, Ended, Ending};
 use bit_rows::BitRow;

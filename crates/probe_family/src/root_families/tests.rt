@@ -1,3 +1,4 @@
+//! The roots for each notion.
 ghost use Rattle.std.specs.Prelude.{◌≡◌, ◌+◌, IfOk, length};
 
 use super::*;
