@@ -1,0 +1,11 @@
+pub mod Names
+pub mod Lexemes
+pub mod Statements
+pub mod Lines
+pub mod Text
+pub mod Refusals
+pub mod Said
+pub mod Forms
+pub mod Machine
+pub mod Seen
+pub mod Cursor

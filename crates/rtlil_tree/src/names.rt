@@ -1,0 +1,43 @@
+//! Names that were seen.
+
+ghost use Rattle.std.specs.Prelude.{◌≡◌, [], not, IfOk, OnOk};
+ghost use Rattle.rtlil_tree.specs.Names.{is_among};
+ghost use Rattle.rtlil_tree.specs.Seen.{HasOneMore};
+
+use std::alloc::{AllocError, Global};
+use std::collections::BTreeSet;
+use std::marker::Model;
+
+/// A set of names; contracts see them in the set's order.
+#[derive(Drop)]
+pub struct Names<'a> {
+    seen: BTreeSet<&'a [u8]>,
+}
+
+impl<'a> Model for Names<'a> {
+    ghost use Rattle.std.specs.Prelude.{ℕ, List, map};
+    ghost use Rattle.std.specs.Borrow.{Bor};
+
+    ghost Value = { List (List ℕ) };
+
+    ghost view = { λ n. map (λ (k : Bor (List ℕ)). k.now) n.seen.keys };
+}
+
+impl<'a> Names<'a> {
+    pub fn new(alloc: Global) -> Names<'a>
+        ensures { result ≡ [] }
+    {
+        Names {
+            seen: BTreeSet::new(alloc),
+        }
+    }
+
+    /// Adds a name; answers whether it is new.
+    pub fn add(&mut self, name: &'a [u8]) -> Result<bool, AllocError>
+        ensures new { IfOk result (λ added. added ≡ not (is_among name.now self.old)) }
+        ensures names { OnOk result (HasOneMore self.old self.new name.now) }
+    {
+        let added = self.seen.insert(name)?;
+        Ok(added)
+    }
+}
