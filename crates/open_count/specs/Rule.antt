@@ -1,8 +1,9 @@
 -- The rule of the words: what the open, the best and the stop word are, between any two steps, by the views of all seats.
--- A seat that was dropped keeps its view among them.
-use Rattle.std.specs.Prelude.{◌≡◌, ℕ, ◌+◌, ◌%◌, ◌^◌, ◌<◌, ◌≤◌, ◌⊎◌, List, [], ◌∷◌, All, Contains, sum_by, min}
+-- A seat that was dropped keeps its view among them. So the rule counts the seats too: a table gives out as many as there are workers, and no other.
+use Rattle.std.specs.Prelude.{◌≡◌, ℕ, ◌+◌, ◌%◌, ◌^◌, ◌<◌, ◌≤◌, ◌⊎◌, List, [], ◌∷◌, All, Contains, length, sum_by, min}
 use Rattle.std.specs.List.{flat_map, list_any}
 use Rattle.atomic_table.specs.Table.{State}
+use Rattle.open_count.specs.declared.rule.Setup.{Setup}
 use Rattle.open_count.specs.declared.view.CountView.{CountView}
 use Rattle.open_count.specs.Views.{no_rank, stop_entry}
 
@@ -15,6 +16,10 @@ all_closes views = sum_by (λ v. v.closes) views
 
 abbrev pub all_children : List CountView → ℕ
 all_children views = sum_by (λ v. v.children) views
+
+-- the seats that may still be made
+abbrev pub all_spare : List CountView → ℕ
+all_spare views = sum_by (λ v. v.spare) views
 
 -- the ranks that any seat failed
 abbrev pub failed_ranks : List CountView → List ℕ
@@ -34,7 +39,9 @@ least_rank [] = no_rank
 least_rank (r ∷ rs) = min r (least_rank rs)
 
 -- the rule
-pub record ObeysRule (roots open_word best_word stop_word : ℕ) (views : List CountView) : Type 0 where
+pub record ObeysRule (roots workers open_word best_word stop_word : ℕ) (views : List CountView) : Type 0 where
+  -- the seats that were made and those that may still be made are the workers
+  pub seats : length views + all_spare views ≡ workers
   -- modulo 2 ^ 64, the open word is the roots and all children that were counted, less all splits and closes
   pub counted : (open_word + (all_splits views + all_closes views)) % 2 ^ 64 ≡ (roots + all_children views) % 2 ^ 64
   -- a failed rank is no word that stands for none
@@ -51,13 +58,13 @@ pub record ObeysRule (roots open_word best_word stop_word : ℕ) (views : List C
   pub seen : Contains (loaded_stops views) 1 → stop_word ≡ 1
 
 -- the table has the three words, and they obey the rule with the views of all seats
-abbrev pub IsKept : ℕ → State (Unit {0}) CountView → Type 0
-IsKept roots s =
+abbrev pub IsKept : Setup → State (Unit {0}) CountView → Type 0
+IsKept setup s =
     (open_word best_word stop_word : ℕ)
     × (s.words ≡ open_word ∷ best_word ∷ stop_word ∷ [])
-    × ObeysRule roots open_word best_word stop_word s.views
+    × ObeysRule setup.roots setup.workers open_word best_word stop_word s.views
 
 -- the views give the words: there is one open, one best and one stop word that obey the rule with them
 abbrev pub ViewsGiveWords : Type 0
-ViewsGiveWords = (roots o b s o' b' s' : ℕ) (views : List CountView)
-    → o < 2 ^ 64 → ObeysRule roots o b s views → o' < 2 ^ 64 → ObeysRule roots o' b' s' views → (o ≡ o') × (b ≡ b') × (s ≡ s')
+ViewsGiveWords = (roots workers o b s o' b' s' : ℕ) (views : List CountView)
+    → o < 2 ^ 64 → ObeysRule roots workers o b s views → o' < 2 ^ 64 → ObeysRule roots workers o' b' s' views → (o ≡ o') × (b ≡ b') × (s ≡ s')

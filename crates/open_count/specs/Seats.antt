@@ -10,7 +10,11 @@ view_of s = s.seat.me.0
 
 -- with how many open families the table began
 abbrev pub roots_of : CountTable → ℕ
-roots_of t = t.table.shared.key
+roots_of t = t.table.shared.key.roots
+
+-- how many seats there are and may still be made
+abbrev pub workers_of : CountTable → ℕ
+workers_of t = t.table.shared.key.workers
 
 -- the seat is one of the table's
 abbrev pub IsSeatOf : CountTable → CountSeat → Type 0

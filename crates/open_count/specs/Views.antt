@@ -1,10 +1,18 @@
 -- A seat's view: what the seat has done and seen, and what each call adds to it.
-use Rattle.std.specs.Prelude.{ℕ, ◌+◌, ◌∷◌, [], ◌++◌, Bool, true, false, Option, Some, None}
+use Rattle.std.specs.Prelude.{ℕ, ◌+◌, ◌-◌, ◌∷◌, [], ◌++◌, Bool, true, false, Option, Some, None}
 use Rattle.open_count.specs.declared.view.CountView.{CountView}
 
--- a seat that has done and seen nothing
+-- a seat that has done and seen nothing, and makes no seat
 abbrev pub newcomer : CountView
-newcomer = record { splits = 0; children = 0; closes = 0; failed = []; opens_seen = []; bests_seen = []; stopped = false; stops_seen = [] }
+newcomer = record { spare = 0; splits = 0; children = 0; closes = 0; failed = []; opens_seen = []; bests_seen = []; stopped = false; stops_seen = [] }
+
+-- one that may still make so many seats
+abbrev pub first_seat : ℕ → CountView
+first_seat spare = record newcomer { spare = spare }
+
+-- a seat was made
+abbrev pub after_another : CountView → CountView
+after_another v = record v { spare = v.spare - 1 }
 
 -- a family gave so many children
 abbrev pub after_split : CountView → ℕ → CountView

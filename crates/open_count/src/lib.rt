@@ -7,8 +7,9 @@
 //!
 //! A worker calls by its *seat*, a token of no bytes that may move to another thread, while all threads share
 //! the table. The seat's *view* is what the worker has done and seen: it exists in the proofs alone. The *rule of
-//! the words* ties the three words to all views. Each call is one atomic step, which returns at once, takes no
-//! memory, keeps the rule and changes its own seat's view alone.
+//! the words* ties the three words to all views, and counts the seats: those that a table begins with are all that
+//! there are. Each call is one atomic step, which returns at once, takes no memory, keeps the rule and changes its
+//! own seat's view alone.
 #![tactic(auto)]
 
 use std::alloc::AllocError;

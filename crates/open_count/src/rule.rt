@@ -1,19 +1,29 @@
 //! The rule of the words as the table keeps it, and what each kind of step tells its seat.
 
-ghost use Rattle.open_count.specs.Views.{newcomer};
+ghost use Rattle.std.specs.Prelude.{◌-◌};
+ghost use Rattle.open_count.specs.Views.{newcomer, first_seat, after_another};
 ghost use Rattle.open_count.specs.Rule.{IsKept};
 ghost use Rattle.open_count.specs.Steps.{Splits, Closes, LoadsOpen, Fails, LoadsBest, Stops, LoadsStop};
 
 use crate::view::CountView;
 use atomic_table::{Play, Split, TableRule};
 
-/// The rule of the words. The table is told the roots.
+/// What the table is told when it is made.
+#[derive(Drop)]
+pub struct Setup {
+    /// How many families are open at first.
+    pub roots: u64,
+    /// How many seats there are to be.
+    pub workers: u32,
+}
+
+/// The rule of the words.
 pub struct Words;
 
-impl TableRule<(), CountView, u64> for Words {
+impl TableRule<(), CountView, Setup> for Words {
     ghost holds = { IsKept };
 
-    ghost first = { λ roots. newcomer };
+    ghost first = { λ setup. first_seat (setup.workers - 1) };
 }
 
 /// Adds on the open word.
@@ -65,11 +75,11 @@ impl Play<(), CountView> for StoppedStep {
     ghost then = { LoadsStop };
 }
 
-/// Makes a seat that has done and seen nothing.
+/// Makes one of the seats that may still be made.
 pub struct Newcomer;
 
 impl Split<CountView> for Newcomer {
-    ghost left = { λ v. v };
+    ghost left = { after_another };
 
     ghost right = { λ v. newcomer };
 }

@@ -1,9 +1,9 @@
 //! The table of the three words, and the seats at it.
 
-ghost use Rattle.std.specs.Prelude.{◌≡◌, ◌<◌, All, IfOk, vec_len};
+ghost use Rattle.std.specs.Prelude.{◌≡◌, ◌-◌, ◌<◌, All, IfOk, vec_len};
 
 use crate::NoMemory;
-use crate::rule::{Newcomer, Words};
+use crate::rule::{Newcomer, Setup, Words};
 use crate::view::CountView;
 use atomic_table::{Seat, Table};
 use std::alloc::Global;
@@ -11,7 +11,7 @@ use std::alloc::Global;
 /// The three words, which all threads share.
 #[derive(Drop)]
 pub struct CountTable {
-    pub(crate) table: Table<(), CountView, u64, Words, Global>,
+    pub(crate) table: Table<(), CountView, Setup, Words, Global>,
     ghost three: { table.shared.table_id.words ≡ 3 },
 }
 
@@ -22,11 +22,11 @@ pub struct CountSeat {
 }
 
 impl CountTable {
-    ghost use Rattle.open_count.specs.Views.{newcomer};
-    ghost use Rattle.open_count.specs.Seats.{view_of, roots_of, IsSeatOf};
+    ghost use Rattle.open_count.specs.Views.{newcomer, first_seat, after_another};
+    ghost use Rattle.open_count.specs.Seats.{view_of, roots_of, workers_of, IsSeatOf};
 
-    /// The words of so many workers, with a seat for each of them. The open word begins at `roots`, the best word at
-    /// its greatest value, which stands for none, and the stop word at 0.
+    /// The words of so many workers, with a seat for each of them: these are all the seats that there are. The open
+    /// word begins at `roots`, the best word at its greatest value, which stands for none, and the stop word at 0.
     pub fn make(
         alloc: Global,
         workers: u32,
@@ -34,11 +34,12 @@ impl CountTable {
     ) -> Result<(CountTable, Vec<CountSeat>), NoMemory>
         requires { 0 < workers }
         ensures roots { IfOk result (λ made. roots_of made.0 ≡ roots) }
+        ensures workers { IfOk result (λ made. workers_of made.0 ≡ workers) }
         ensures count { IfOk result (λ made. vec_len made.1 ≡ workers) }
         ensures seats { IfOk result (λ made. All (IsSeatOf made.0) made.1.items) }
         ensures views { IfOk result (λ made. All (λ s. view_of s ≡ newcomer) made.1.items) }
     {
-        let (table, mut first) = CountTable::with_one_seat(alloc, roots)?;
+        let (table, mut first) = CountTable::with_one_seat(alloc, workers, roots)?;
         let mut seats = Vec::new(alloc);
         for _ in 1..workers {
             seats.push(table.another(&mut first))?;
@@ -47,19 +48,30 @@ impl CountTable {
         Ok((table, seats))
     }
 
-    fn with_one_seat(alloc: Global, roots: u64) -> Result<(CountTable, CountSeat), NoMemory>
+    fn with_one_seat(
+        alloc: Global,
+        workers: u32,
+        roots: u64,
+    ) -> Result<(CountTable, CountSeat), NoMemory>
+        requires { 0 < workers }
         ensures roots { IfOk result (λ made. roots_of made.0 ≡ roots) }
+        ensures workers { IfOk result (λ made. workers_of made.0 ≡ workers) }
         ensures seat { IfOk result (λ made. IsSeatOf made.0 made.1) }
-        ensures view { IfOk result (λ made. view_of made.1 ≡ newcomer) }
+        ensures view { IfOk result (λ made. view_of made.1 ≡ first_seat (workers - 1)) }
     {
-        let (table, seat) = Table::of_words(alloc, &[roots, u64::MAX, 0], &roots)?;
+        let (table, seat) = Table::of_words(
+            alloc,
+            &[roots, u64::MAX, 0],
+            &Setup { roots, workers },
+        )?;
         Ok((CountTable { table }, CountSeat { seat }))
     }
 
     fn another(&self, seat: &mut CountSeat) -> CountSeat
-        requires { IsSeatOf self.now seat.old }
+        requires seat { IsSeatOf self.now seat.old }
+        requires spare { 0 < (view_of seat.old).spare }
         ensures seat { IsSeatOf self.now seat.new }
-        ensures view { view_of seat.new ≡ view_of seat.old }
+        ensures view { view_of seat.new ≡ after_another (view_of seat.old) }
         ensures new_seat { IsSeatOf self.now result }
         ensures new_view { view_of result ≡ newcomer }
     {

@@ -4,6 +4,8 @@ use std::collections::LinkedList;
 
 /// What the calls by one seat have done and seen. No value of it is made: it exists in the proofs alone.
 pub struct CountView {
+    /// How many seats it may still make.
+    pub spare: u32,
     /// How many times the seat split a family.
     pub splits: u64,
     /// All children that it counted.
