@@ -3,6 +3,7 @@ use Rattle.std.proofs.Common.{ℕ, ◌+◌, ◌≤◌, List, [], ◌∷◌, ◌+
 use Rattle.std.specs.Prelude.{replicate}
 use Rattle.std.specs.List.{flat_map}
 use Rattle.std.proofs.lemmas.List.{length-map}
+use Rattle.expr_table.specs.Instance.{most_probes}
 use Rattle.narrow_netlist.specs.declared.line.Line.{Line}
 use Rattle.narrow_netlist.specs.declared.line.Line.TheVariants.{Inner, End}
 use Rattle.narrow_netlist.specs.declared.netlist.Netlist.{Netlist}
@@ -24,7 +25,7 @@ few-cells : (cells : List XorCell) → length cells ≤ length (flat_map cell_li
 few-cells [] = omega arith
 few-cells (c ∷ cells) = omega (arith, few-cells cells, length-append (cell_lines c) (flat_map cell_lines cells))
 
-pub few-wires : (bytes : List ℕ) (n : Netlist) → IsNarrow bytes n → length n.inputs + length n.cells ≤ 65535
+pub few-wires : (bytes : List ℕ) (n : Netlist) → IsNarrow bytes n → length n.inputs + length n.cells ≤ most_probes
 few-wires bytes n narrow =
     let outputs = flat_map output_lines narrow.outputs in
     let inner = map Inner n.inner in

@@ -1,7 +1,7 @@
 //! The instance of a netlist, with the wires that its probes sit on.
 
 ghost use Rattle.std.specs.Prelude.{◌≡◌, ◌≤◌, ◌+◌, length, map, IfOk};
-ghost use Rattle.expr_table.specs.Instance.{IsFitting};
+ghost use Rattle.expr_table.specs.Instance.{IsFitting, most_probes};
 ghost use Rattle.expr_table.specs.Table.{most_rows, new_table};
 ghost use Rattle.maskverif_cli.specs.Building.{AreProbedWires, probe_on};
 ghost use Rattle.maskverif_cli.specs.NetlistInstance.{HasInstance, groups_from, is_output};
@@ -79,7 +79,7 @@ pub struct NamedInstance {
 
 /// The instance of a netlist.
 pub fn instance_of(alloc: Global, netlist: &Netlist) -> Result<NamedInstance, NoMemory>
-    requires few { length netlist.now.inputs + length netlist.now.cells ≤ 65535 }
+    requires few { length netlist.now.inputs + length netlist.now.cells ≤ most_probes }
     ensures instance { IfOk result (λ named. HasInstance netlist.now named.instance) }
     ensures fitting { IfOk result (λ named. IsFitting named.instance) }
     ensures names { IfOk result (λ named. AreProbedWires named.wires.items netlist.now) }
