@@ -8,8 +8,6 @@ mod causes;
 mod held;
 mod order;
 mod queue;
-#[cfg(test)]
-mod tests;
 mod unroll;
 
 pub use unroll::levels;
