@@ -1,7 +1,7 @@
 -- How the reader goes through signals.
-use Rattle.std.proofs.Common.{◌≡◌, ℕ, zero, suc, ◌+◌, ◌-◌, ◌<◌, ◌≤◌, List, [], ◌∷◌, ◌++◌, length, get_or, take, drop, map, refl, ap, ◌∙◌, sym, arith, Option, Some, None, option_map, subst, min, cond, nat_lt, Bool, true, false, Result, Ok, Err}
+use Rattle.std.proofs.Common.{◌≡◌, ℕ, zero, suc, ◌+◌, ◌-◌, ◌<◌, ◌≤◌, List, [], ◌∷◌, ◌++◌, length, get_or, drop, map, refl, ap, ◌∙◌, sym, arith, Option, Some, None, option_map, subst, min, cond, nat_lt, true, false, Result, Err}
 use Rattle.std.proofs.lemmas.Bool.{cond-true, cond-false, lt-ltb, le-ltb}
-use Rattle.std.proofs.lemmas.List.{drop_more, drop-drop, drop-map, drop_all, take_rest, length-drop, length-map}
+use Rattle.std.proofs.lemmas.List.{drop_more, drop-drop, drop-map, drop_all, length-drop, length-map}
 use Rattle.std.specs.declared.vec.Vec.{Vec}
 use Rattle.std.specs.declared.alloc.Global.{Global}
 use Rattle.circuit_types.specs.declared.signal.Signal.{Signal}
@@ -11,9 +11,9 @@ use Rattle.rtlil_tree.specs.declared.misfit.Misfit.TheVariants as misfit
 use Rattle.rtlil_tree.specs.declared.word.Word.{Word}
 use Rattle.rtlil_tree.specs.declared.word.Word.TheVariants as word
 use Rattle.rtlil_tree.specs.Lexemes.{Lexeme, key, id, constant, open_slice, close_slice, open_join, close_join, colon}
-use Rattle.rtlil_tree.specs.Statements.{Piece, lexeme, places, nesting_of}
+use Rattle.rtlil_tree.specs.Statements.{Piece, places, nesting_of}
 use Rattle.rtlil_tree.specs.Said.{◌>>=◌, plain, Stops, Gives}
-use Rattle.rtlil_tree.specs.Forms.{init_and_last, last_of, sliced, slice_at, Standing, with_inner, closed, moved, piece_at, finished, signals_from, signals_of, atom_of, ends_join, closes, ReadsOn, ReadsAll, ReadsNone, NoneUnless, ReadsParts}
+use Rattle.rtlil_tree.specs.Forms.{init_and_last, last_of, sliced, slice_at, Standing, with_inner, moved, signals_from, signals_of, atom_of, ends_join, closes, ReadsOn, ReadsAll, ReadsNone, NoneUnless, ReadsParts}
 
 init-push : (s : Signal) (ss : List Signal) (x : Signal) → init_and_last s (ss ++ x ∷ []) ≡ (s ∷ ss, x)
 init-push s [] x = refl

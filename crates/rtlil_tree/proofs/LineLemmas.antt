@@ -1,11 +1,11 @@
 -- How the reader cuts the tokens into lines, and what it makes of a line.
-use Rattle.std.proofs.Common.{◌≡◌, ℕ, zero, suc, ◌+◌, ◌-◌, ◌<◌, ◌≤◌, min, Bool, true, false, not, cond, List, [], ◌∷◌, ◌++◌, length, get_or, take, drop, map, refl, ap, ◌∙◌, sym, arith, subst, ⊎_elim, Option, Some, None, option_map, append_assoc}
+use Rattle.std.proofs.Common.{◌≡◌, ℕ, zero, suc, ◌+◌, ◌<◌, ◌≤◌, not, List, [], ◌∷◌, ◌++◌, length, get_or, take, drop, map, refl, ap, ◌∙◌, sym, arith, ⊎_elim, Option, Some, None, option_map, append_assoc}
 use Rattle.std.specs.List.{prefix_len}
-use Rattle.std.proofs.lemmas.Bool.{cases_Bool, cond-true, cond-false, not-true, not-false}
-use Rattle.std.proofs.lemmas.List.{drop_more, drop_all, append-nil, drop_min}
+use Rattle.std.proofs.lemmas.Bool.{cases_Bool, cond-true, cond-false}
+use Rattle.std.proofs.lemmas.List.{drop_more, drop_all, append-nil}
 use Rattle.rtlil_lex.specs.declared.token.Token.{Token}
-use Rattle.rtlil_tree.specs.Lexemes.{Lexeme, Spelled}
-use Rattle.rtlil_tree.specs.Lines.{Line, is_eol, with_first, cut, spelled, line_of, all_lines, lines_of}
+use Rattle.rtlil_tree.specs.Lexemes.{Lexeme}
+use Rattle.rtlil_tree.specs.Lines.{is_eol, with_first, cut, spelled, line_of, all_lines, lines_of}
 use Rattle.rtlil_tree.specs.Said.{◌>>=◌, said_by, lexemes_of}
 use Rattle.rtlil_tree.specs.Cursor.{is_inner}
 

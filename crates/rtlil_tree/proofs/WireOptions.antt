@@ -1,6 +1,6 @@
 -- How the reader goes through the options of a wire.
-use Rattle.std.proofs.Common.{◌≡◌, ℕ, zero, suc, ◌+◌, ◌-◌, ◌<◌, ◌≤◌, List, [], ◌∷◌, ◌++◌, length, drop, map, refl, ap, ◌∙◌, sym, arith, Option, Some, None, option_map, subst}
-use Rattle.std.proofs.lemmas.List.{drop-drop, drop-map, drop_all, length-drop}
+use Rattle.std.proofs.Common.{◌≡◌, ℕ, zero, suc, ◌+◌, ◌-◌, ◌<◌, List, [], ◌∷◌, drop, map, refl, ap, ◌∙◌, sym, arith, Option, Some, None, option_map}
+use Rattle.std.proofs.lemmas.List.{drop-drop, drop-map}
 use Rattle.rtlil_tree.specs.declared.word.Word.{Word}
 use Rattle.rtlil_tree.specs.declared.options.Options.{Options}
 use Rattle.rtlil_tree.specs.declared.options.WireOption.{WireOption}

@@ -1,5 +1,5 @@
 -- How the reader goes from the words of a statement to its form; the definition is in Statements.antt.
-use Rattle.std.specs.Prelude.{ℕ, ◌≡◌, map, Result, Ok, Err, ◌+◌, ◌-◌, zero, suc, ◌<◌, ◌≤◌, nat_lt, if◌then◌else◌, Bool, true, false, ℤ, pos, negsuc, List, [], ◌∷◌, ◌++◌, length, drop, Option, Some, None, option_map}
+use Rattle.std.specs.Prelude.{ℕ, ◌≡◌, map, Result, Ok, Err, ◌+◌, ◌-◌, zero, suc, ◌≤◌, nat_lt, if◌then◌else◌, Bool, true, false, ℤ, pos, negsuc, List, [], ◌∷◌, ◌++◌, length, drop, Option, Some, None, option_map}
 use Rattle.circuit_types.specs.declared.signal.Value.{Value}
 use Rattle.circuit_types.specs.declared.signal.Value.TheVariants as value
 use Rattle.circuit_types.specs.declared.signal.Signal.{Signal}

@@ -9,3 +9,6 @@ pub mod Forms
 pub mod Machine
 pub mod Seen
 pub mod Cursor
+pub mod Reading
+pub mod Placed
+pub mod Answers

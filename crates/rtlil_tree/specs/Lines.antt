@@ -1,5 +1,5 @@
 -- The statements of a text, as its tokens up to each end of line.
-use Rattle.std.specs.Prelude.{◌≡◌, ℕ, ◌+◌, Bool, true, false, if◌then◌else◌, List, [], ◌∷◌, ◌++◌, map, slice_range, length}
+use Rattle.std.specs.Prelude.{◌≡◌, ℕ, Bool, true, false, if◌then◌else◌, List, [], ◌∷◌, ◌++◌, map, slice_range, length}
 use Rattle.rtlil_lex.specs.Tokens.{AreTokens, line_at}
 use Rattle.rtlil_lex.specs.declared.token.Token.{Token}
 use Rattle.rtlil_lex.specs.declared.token.TokenKind.{TokenKind}

@@ -1,7 +1,5 @@
 -- How the reader goes from statement to statement; the definition is in Text.antt.
-use Rattle.std.specs.Prelude.{◌≡◌, ℕ, ◌==◌, not, ◌&&◌, ◌||◌, if◌then◌else◌, Bool, true, false, List, [], ◌∷◌, ◌++◌, length, map, Option, Some, None, Result, Ok, Err, is_none}
-use Rattle.std.specs.List.{list_any}
-use Rattle.rtlil_lex.specs.declared.token.Token.{Token}
+use Rattle.std.specs.Prelude.{◌≡◌, ℕ, if◌then◌else◌, Bool, true, false, List, [], ◌∷◌, ◌++◌, Option, Some, None, Result, Ok, Err}
 use Rattle.rtlil_lex.specs.declared.token.TokenKind.{TokenKind}
 use Rattle.rtlil_lex.specs.declared.token.TokenKind.TheVariants as kind
 use Rattle.rtlil_tree.specs.Names.{is_among, wire_names, cell_names, port_names, module_names}
@@ -20,7 +18,7 @@ use Rattle.circuit_types.specs.declared.tree.Cell.{Cell}
 use Rattle.circuit_types.specs.declared.tree.PortConnect.{PortConnect}
 use Rattle.rtlil_tree.specs.declared.keyword.Keyword.{Keyword}
 use Rattle.rtlil_tree.specs.declared.keyword.Keyword.TheVariants.{Memory, Process}
-use Rattle.rtlil_tree.specs.Lexemes.{Lexeme, Spelled}
+use Rattle.rtlil_tree.specs.Lexemes.{Spelled}
 use Rattle.rtlil_tree.specs.Lines.{Line}
 use Rattle.rtlil_tree.specs.Said.{◌>>=◌, keyword_of, lexemes_of}
 use Rattle.rtlil_tree.specs.Forms.{FileForm, autoidx, attribute, begins, file_form_of, WireForm, ModuleForm, attribute_in, parameter, wire, cell_begins, connect, ends, module_form_of, CellForm, cell_parameter, port_connect, cell_ends, cell_form_of}

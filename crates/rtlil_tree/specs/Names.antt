@@ -1,11 +1,11 @@
 -- Names that may stand once: of modules, of a module's wires, of its cells, and of a cell's connected ports.
-use Rattle.std.specs.Prelude.{ℕ, Bool, true, false, not, ◌&&◌, List, [], ◌∷◌, map, IsTrue}
+use Rattle.std.specs.Prelude.{ℕ, Bool, true, not, ◌&&◌, List, [], ◌∷◌, map, IsTrue}
 use Rattle.std.specs.List.{list_any, flat_map, AllByRecursion}
 use Rattle.std.specs.Str.{bytes_eq}
 use Rattle.circuit_types.specs.declared.tree.Tree.{Tree}
 use Rattle.circuit_types.specs.declared.tree.Module.{Module}
 use Rattle.circuit_types.specs.declared.tree.Item.{Item}
-use Rattle.circuit_types.specs.declared.tree.Item.TheVariants.{Wire, Cell, Parameter, Connect}
+use Rattle.circuit_types.specs.declared.tree.Item.TheVariants.{Wire, Cell}
 use Rattle.circuit_types.specs.declared.tree.PortConnect.{PortConnect}
 
 abbrev pub is_among : List ℕ → List (List ℕ) → Bool

@@ -1,5 +1,5 @@
 -- The forms of statements.
-use Rattle.std.specs.Prelude.{◌≡◌, ℕ, ◌+◌, ◌<◌, ◌≤◌, ◌⊎◌, max, Bool, true, false, ℤ, pos, List, [], ◌∷◌, ◌++◌, Option, Some, None, fold, map}
+use Rattle.std.specs.Prelude.{◌≡◌, ℕ, ◌+◌, ◌≤◌, ◌⊎◌, max, true, false, ℤ, pos, List, [], ◌∷◌, ◌++◌, Option, Some, None, fold, map}
 use Rattle.std.specs.List.{flat_map, AllByRecursion}
 use Rattle.circuit_types.specs.declared.signal.Value.{Value}
 use Rattle.circuit_types.specs.declared.signal.Value.TheVariants as value

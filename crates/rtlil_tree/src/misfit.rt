@@ -2,7 +2,11 @@
 
 ghost use Rattle.std.specs.Prelude.{◌≡◌};
 ghost use Rattle.rtlil_tree.specs.declared.misfit.Misfit.TheVariants.{NoMemory};
+ghost use Rattle.circuit_types.specs.declared.refusal.Refusal.TheVariants.{BadForm};
+ghost use Rattle.circuit_types.specs.declared.refusal.Stop.TheVariants.{Refused};
+ghost use Rattle.rtlil_tree.specs.Reading.{stop_of, answer_at};
 
+use circuit_types::{Refusal, Stop};
 use std::alloc::{AllocError, AllocFailed};
 
 /// Why a statement was not read.
@@ -27,5 +31,31 @@ impl<T: Drop> From<AllocFailed<T>> for Misfit {
 
     fn from(_error: AllocFailed<T>) -> Misfit {
         Misfit::NoMemory
+    }
+}
+
+/// The refusal of a statement without a form, or of a text with something missing at its end.
+pub fn bad_form(line: u32) -> Stop
+    ensures { result ≡ Refused (BadForm line) }
+{
+    Stop::Refused(Refusal::BadForm { line })
+}
+
+fn stop_at(misfit: Misfit, line: u32) -> Stop
+    ensures { result ≡ stop_of misfit line }
+{
+    match misfit {
+        Misfit::NoForm => bad_form(line),
+        Misfit::NoMemory => Stop::NoMemory,
+    }
+}
+
+/// The answer about the statement on the line.
+pub fn answer_at<T>(answer: Result<T, Misfit>, line: u32) -> Result<T, Stop>
+    ensures { result ≡ answer_at answer line }
+{
+    match answer {
+        Ok(value) => Ok(value),
+        Err(misfit) => Err(stop_at(misfit, line)),
     }
 }

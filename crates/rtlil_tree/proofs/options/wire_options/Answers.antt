@@ -1,4 +1,4 @@
-use Rattle.std.proofs.Common.{◌≤◌, ◌+◌, length, ap, ◌∙◌, sym, arith, option_map}
+use Rattle.std.proofs.Common.{length, ap, ◌∙◌, arith, option_map}
 use Rattle.std.proofs.lemmas.List.{take_rest, length-drop}
 use Rattle.rtlil_tree.proofs.WireOptions.{moves_on, ends_here}
 use Rattle.rtlil_tree.proofs.options.wire_options.Goals as goal

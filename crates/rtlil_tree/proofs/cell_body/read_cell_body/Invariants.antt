@@ -1,0 +1,10 @@
+use Rattle.std.proofs.Common.{length}
+use Rattle.rtlil_tree.specs.Cursor.{left_of}
+use Rattle.rtlil_tree.proofs.CellMoves.{CellSoFar}
+use Rattle.rtlil_tree.proofs.cell_body.read_cell_body.Given as goal
+
+abbrev pub invariant-loop-line : goal.invariant-loop-line
+invariant-loop-line l = CellSoFar l.end_line l.fn.lines l.lines l.body
+
+abbrev pub decreases-loop-line : goal.decreases-loop-line
+decreases-loop-line l = length (left_of l.lines)

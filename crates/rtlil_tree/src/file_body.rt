@@ -1,0 +1,109 @@
+//! The statements of a file.
+
+ghost use Rattle.std.specs.Prelude.{◌≡◌, ◌≤◌, [], Ok, Some, length, OnOk};
+ghost use Rattle.rtlil_tree.specs.Said.{Gives};
+ghost use Rattle.rtlil_tree.specs.Forms.{file_view, begins};
+ghost use Rattle.rtlil_tree.specs.Cursor.{line_view, left_of};
+ghost use Rattle.rtlil_tree.specs.Machine.{start, run, file_step};
+ghost use Rattle.rtlil_tree.specs.Reading.{form_in_file, HasItsModules, ReadsFileLine, FileRunsTo, LeadsTo};
+
+use crate::constant::copy;
+use crate::line::{Line, Lines};
+use crate::misfit::{Misfit, answer_at, bad_form};
+use crate::module_body::{none_held, read_module_body, taken};
+use crate::names::Names;
+use crate::statements::{FileStatement, file_statement};
+use circuit_types::{Attribute, Module, Stop, Tree};
+use sequences::Sequence;
+use std::alloc::Global;
+
+/// What stands in a file, as far as it is read.
+#[derive(Drop)]
+pub struct FileBody<'a> {
+    pub modules: Vec<Module>,
+    /// The attributes that stand before the next statement.
+    pub held: Vec<Attribute>,
+    pub names: Names<'a>,
+}
+
+impl<'a> FileBody<'a> {
+    fn new(alloc: Global) -> FileBody<'a>
+        ensures modules { result.modules.items ≡ [] }
+        ensures held { result.held.items ≡ [] }
+        ensures names { HasItsModules result }
+    {
+        FileBody {
+            modules: Vec::new(alloc),
+            held: Vec::new(alloc),
+            names: Names::new(alloc),
+        }
+    }
+
+    /// Reads a module with a new name, up to its `end`.
+    fn module(
+        &mut self,
+        alloc: Global,
+        lines: &mut Lines<'a>,
+        end_line: u32,
+        line: u32,
+        name: &'a [u8],
+    ) -> Result<(), Stop>
+        requires { HasItsModules self.old }
+        ensures module { FileRunsTo result end_line self.old self.new lines.old lines.new line (begins name.now) }
+        ensures names { OnOk result (HasItsModules self.new) }
+        ensures fewer { OnOk result (length (left_of lines.new) ≤ length (left_of lines.old)) }
+    {
+        if !self.names.add(name)? {
+            return Err(bad_form(line));
+        }
+        let items = read_module_body(alloc, lines, end_line)?;
+        let name = copy(alloc, name)?;
+        let attributes = taken(alloc, &mut self.held);
+        self.modules.push(Module {
+            line,
+            name,
+            attributes,
+            items: Sequence::from_vec(items),
+        })?;
+        Ok(())
+    }
+}
+
+fn form<'a>(alloc: Global, line: &Line<'a>) -> Result<FileStatement<'a>, Misfit>
+    ensures { Gives file_view result (form_in_file (line_view line.now)) }
+{
+    let words = line.words(alloc)?;
+    file_statement(alloc, &words)
+}
+
+/// The statement of a file on the line.
+fn statement<'a>(alloc: Global, line: &Line<'a>) -> Result<FileStatement<'a>, Stop>
+    ensures { ReadsFileLine result line.now }
+{
+    answer_at(form(alloc, line), line.number())
+}
+
+/// Reads all statements.
+pub fn read_file<'a>(alloc: Global, lines: &mut Lines<'a>, end_line: u32) -> Result<Tree, Stop>
+    ensures { LeadsTo result (run end_line start (left_of lines.old)) (λ t. Ok t) }
+{
+    let mut body = FileBody::new(alloc);
+    while let Some(line) = lines.take() {
+        let number = line.number();
+        match statement(alloc, &line)? {
+            FileStatement::Autoidx(_) => {
+                none_held(&body.held, number)?;
+            }
+            FileStatement::Attribute(attribute) => {
+                body.held.push(attribute)?;
+            }
+            FileStatement::Module(name) => {
+                body.module(alloc, lines, end_line, number, name)?;
+            }
+        }
+    }
+    none_held(&body.held, end_line)?;
+    Ok(Tree {
+        modules: Sequence::from_vec(body.modules),
+    })
+}

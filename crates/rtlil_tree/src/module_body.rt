@@ -1,0 +1,206 @@
+//! The statements of a module.
+
+ghost use Rattle.std.specs.Prelude.{◌≡◌, ◌≤◌, [], true, length, IfErr, OnOk};
+ghost use Rattle.circuit_types.specs.declared.refusal.Refusal.TheVariants.{BadForm};
+ghost use Rattle.circuit_types.specs.declared.refusal.Stop.TheVariants.{Refused};
+ghost use Rattle.rtlil_tree.specs.Said.{Gives};
+ghost use Rattle.rtlil_tree.specs.Forms.{module_view, wire_view, parameter, wire, cell_begins, connect};
+ghost use Rattle.rtlil_tree.specs.Cursor.{line_view, left_of};
+ghost use Rattle.rtlil_tree.specs.Machine.{has_some};
+ghost use Rattle.rtlil_tree.specs.Reading.{form_in_module, HasItsNames, ReadsModuleLine};
+ghost use Rattle.rtlil_tree.specs.Reading.{ModuleStepsTo, ModuleRunsTo, ReadsModule};
+
+use crate::cell_body::{CellBody, read_cell_body};
+use crate::constant::copy;
+use crate::line::{Line, Lines};
+use crate::misfit::{Misfit, answer_at, bad_form};
+use crate::names::Names;
+use crate::statements::{ModuleStatement, WireStatement, module_statement};
+use circuit_types::{Attribute, Cell, Connect, Item, Parameter, Refusal, Stop, Wire};
+use sequences::Sequence;
+use std::alloc::Global;
+use std::mem;
+
+/// What stands in a module, as far as it is read.
+#[derive(Drop)]
+pub struct ModuleBody<'a> {
+    pub items: Vec<Item>,
+    /// The attributes that stand before the next statement.
+    pub held: Vec<Attribute>,
+    pub wires: Names<'a>,
+    pub cells: Names<'a>,
+}
+
+/// Refuses the statement on the line where attributes stand before it.
+pub fn none_held(held: &[Attribute], line: u32) -> Result<(), Stop>
+    ensures held { IfErr result (λ e. (has_some held.now ≡ true) × (e ≡ Refused (BadForm line))) }
+    ensures none { OnOk result (held.now ≡ []) }
+{
+    match held {
+        [] => Ok(()),
+        _ => Err(bad_form(line)),
+    }
+}
+
+/// The attributes, which are taken away.
+pub fn taken(alloc: Global, held: &mut Vec<Attribute>) -> Sequence<Attribute>
+    ensures attributes { result ≡ held.old.items }
+    ensures none { held.new.items ≡ [] }
+{
+    Sequence::from_vec(mem::replace(held, Vec::new(alloc)))
+}
+
+impl<'a> ModuleBody<'a> {
+    fn new(alloc: Global) -> ModuleBody<'a>
+        ensures items { result.items.items ≡ [] }
+        ensures held { result.held.items ≡ [] }
+        ensures names { HasItsNames result }
+    {
+        ModuleBody {
+            items: Vec::new(alloc),
+            held: Vec::new(alloc),
+            wires: Names::new(alloc),
+            cells: Names::new(alloc),
+        }
+    }
+
+    fn parameter(&mut self, line: u32, of: Parameter) -> Result<(), Stop>
+        requires { HasItsNames self.old }
+        ensures step { ModuleStepsTo result self.old self.new line (parameter of) }
+        ensures names { OnOk result (HasItsNames self.new) }
+    {
+        none_held(&self.held, line)?;
+        self.items.push(Item::Parameter(of))?;
+        Ok(())
+    }
+
+    fn connect(&mut self, line: u32, of: Connect) -> Result<(), Stop>
+        requires { HasItsNames self.old }
+        ensures step { ModuleStepsTo result self.old self.new line (connect of) }
+        ensures names { OnOk result (HasItsNames self.new) }
+    {
+        none_held(&self.held, line)?;
+        self.items.push(Item::Connect(of))?;
+        Ok(())
+    }
+
+    /// Adds a wire with a new name.
+    fn wire(&mut self, alloc: Global, line: u32, of: WireStatement<'a>) -> Result<(), Stop>
+        requires { HasItsNames self.old }
+        ensures step { ModuleStepsTo result self.old self.new line (wire (wire_view of.entry)) }
+        ensures names { OnOk result (HasItsNames self.new) }
+    {
+        if !self.wires.add(of.name)? {
+            return Err(bad_form(line));
+        }
+        if of.options.inout {
+            return Err(Stop::Refused(Refusal::UnsupportedStatement { line }));
+        }
+        let name = copy(alloc, of.name)?;
+        let attributes = taken(alloc, &mut self.held);
+        self.items.push(Item::Wire(Wire {
+            line,
+            name,
+            attributes,
+            width: of.options.width,
+            offset: of.options.offset,
+            port: of.port,
+            upto: of.options.upto,
+            signed: of.options.signed,
+        }))?;
+        Ok(())
+    }
+
+    /// Reads a cell with a new name, up to its `end`.
+    fn cell(
+        &mut self,
+        alloc: Global,
+        lines: &mut Lines<'a>,
+        end_line: u32,
+        line: u32,
+        kind: &'a [u8],
+        name: &'a [u8],
+    ) -> Result<(), Stop>
+        requires { HasItsNames self.old }
+        ensures cell { ModuleRunsTo result end_line self.old self.new lines.old lines.new line
+            (cell_begins kind.now name.now) }
+        ensures names { OnOk result (HasItsNames self.new) }
+        ensures fewer { OnOk result (length (left_of lines.new) ≤ length (left_of lines.old)) }
+    {
+        if !self.cells.add(name)? {
+            return Err(bad_form(line));
+        }
+        let CellBody {
+            parameters,
+            connects,
+            ports: _,
+        } = read_cell_body(alloc, lines, end_line)?;
+        let kind = copy(alloc, kind)?;
+        let name = copy(alloc, name)?;
+        let attributes = taken(alloc, &mut self.held);
+        self.items.push(Item::Cell(Cell {
+            line,
+            kind,
+            name,
+            attributes,
+            parameters: Sequence::from_vec(parameters),
+            connects: Sequence::from_vec(connects),
+        }))?;
+        Ok(())
+    }
+}
+
+fn form<'a>(alloc: Global, line: &Line<'a>) -> Result<ModuleStatement<'a>, Misfit>
+    ensures { Gives module_view result (form_in_module (line_view line.now)) }
+{
+    let words = line.words(alloc)?;
+    module_statement(alloc, line.number(), &words)
+}
+
+/// The statement of a module on the line.
+fn statement<'a>(alloc: Global, line: &Line<'a>) -> Result<ModuleStatement<'a>, Stop>
+    ensures { ReadsModuleLine result line.now }
+{
+    let number = line.number();
+    if line.is_foreign() {
+        return Err(Stop::Refused(Refusal::UnsupportedStatement { line: number }));
+    }
+    answer_at(form(alloc, line), number)
+}
+
+/// Reads what stands in a module, up to its `end`.
+pub fn read_module_body<'a>(
+    alloc: Global,
+    lines: &mut Lines<'a>,
+    end_line: u32,
+) -> Result<Vec<Item>, Stop>
+    ensures body { ReadsModule result end_line lines.old lines.new }
+    ensures fewer { OnOk result (length (left_of lines.new) ≤ length (left_of lines.old)) }
+{
+    let mut body = ModuleBody::new(alloc);
+    while let Some(line) = lines.take() {
+        let number = line.number();
+        match statement(alloc, &line)? {
+            ModuleStatement::Attribute(attribute) => {
+                body.held.push(attribute)?;
+            }
+            ModuleStatement::Parameter(parameter) => {
+                body.parameter(number, parameter)?;
+            }
+            ModuleStatement::Wire(wire) => {
+                body.wire(alloc, number, wire)?;
+            }
+            ModuleStatement::Cell(kind, name) => {
+                body.cell(alloc, lines, end_line, number, kind, name)?;
+            }
+            ModuleStatement::Connect(connect) => {
+                body.connect(number, connect)?;
+            }
+            ModuleStatement::End => {
+                none_held(&body.held, number)?;
+                return Ok(body.items);
+            }
+        }
+    }
+    Err(bad_form(end_line))
+}
