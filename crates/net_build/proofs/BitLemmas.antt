@@ -36,7 +36,7 @@ pushed f xs xs' ys a b x h e p q =
     ∙ (ap (λ y. xs ++ y ∷ map f (numbers (a + 1) (b - (a + 1)))) e
     ∙ (ap (λ ns. xs ++ map f ns) (sym (numbers_more a b h)) ∙ q)))
 
-length-numbers : (a n : ℕ) → length (numbers a n) ≡ n
+pub length-numbers : (a n : ℕ) → length (numbers a n) ≡ n
 length-numbers a zero = refl
 length-numbers a (suc n) = ap suc (length-numbers (a + 1) n)
 
@@ -74,7 +74,7 @@ part_of_run f low count a n h =
     ap (take count) (drop-map f low (numbers a n))
     ∙ (take-map f count (drop low (numbers a n)) ∙ ap (map f) (take-drop-numbers low count a n h))
 
-and_both : (a b : Bool) → a && b ≡ true → (a ≡ true) × (b ≡ true)
+pub and_both : (a b : Bool) → a && b ≡ true → (a ≡ true) × (b ≡ true)
 and_both true b h = (refl, h)
 and_both false b h = cc
 
@@ -146,7 +146,7 @@ shape_rolled ws p (Signal-F.Join es) =
     fold-roll-Signal Shape (shape_step ws) (Signal-F.Join (map p es))
     ∙ ap (λ xs. shape_step ws (Signal-F.Join xs)) (map_map (shape ws) p es)
 
-bits_rolled : (ws : List NetWire) {E : Type 0} (p : E → Signal) (y : Signal-F E)
+pub bits_rolled : (ws : List NetWire) {E : Type 0} (p : E → Signal) (y : Signal-F E)
     → signal_bits ws (roll-Signal (map-Signal E Signal p y)) ≡ bits_step ws (map-Signal E (List SignalBit) (λ e. signal_bits ws (p e)) y)
 bits_rolled ws p (Signal-F.Value v) = fold-roll-Signal (List SignalBit) (bits_step ws) (Signal-F.Value v)
 bits_rolled ws p (Signal-F.Wire name) = fold-roll-Signal (List SignalBit) (bits_step ws) (Signal-F.Wire name)

@@ -17,13 +17,13 @@ use Rattle.net_build.specs.Faults.{earlier_of, least_of, AreFaults, else_line, e
 use Rattle.net_build.specs.Form.{form_causes, fault_causes, Decides}
 use Rattle.net_build.specs.declared.faults.Faults.{Faults}
 
-contains_first : (x : ℕ) (xs : List ℕ) → Contains (x ∷ xs) x
+pub contains_first : (x : ℕ) (xs : List ℕ) → Contains (x ∷ xs) x
 contains_first x xs = (0, omega arith, refl)
 
-contains_later : (x y : ℕ) (xs : List ℕ) → Contains xs y → Contains (x ∷ xs) y
+pub contains_later : (x y : ℕ) (xs : List ℕ) → Contains xs y → Contains (x ∷ xs) y
 contains_later x y xs c = (suc c.0, omega (arith, c.1), c.2)
 
-contains_cases : (x y : ℕ) (xs : List ℕ) (k : ℕ) → k < length (x ∷ xs) → get_or (x ∷ xs) k y ≡ y → (x ≡ y) ⊎ Contains xs y
+pub contains_cases : (x y : ℕ) (xs : List ℕ) (k : ℕ) → k < length (x ∷ xs) → get_or (x ∷ xs) k y ≡ y → (x ≡ y) ⊎ Contains xs y
 contains_cases x y xs zero h e = inl e
 contains_cases x y xs (suc k) h e = inr (k, omega (arith, h), e)
 

@@ -27,7 +27,7 @@ to_once m n e = cc
 at_to : (e : Source) (n : ℕ) → At e ≡ To n → ⊥
 at_to e n h = cc
 
-leads_on : (ds : List Driver) (k n : ℕ) (e : Source) → step_at ds k ≡ To n → Leads ds k e → Leads ds n e
+pub leads_on : (ds : List Driver) (k n : ℕ) (e : Source) → step_at ds k ≡ To n → Leads ds k e → Leads ds n e
 leads_on ds k n e s (here k' e' h) = absurd (at_to e n (sym h ∙ s))
 leads_on ds k n e s (on k' next e' h l) = subst (λ m. Leads ds m e) (to_once next n (sym h ∙ s)) l
 

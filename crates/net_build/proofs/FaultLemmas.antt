@@ -25,7 +25,7 @@ earlier_assoc (Some x) None c = refl
 earlier_assoc (Some x) (Some y) None = refl
 earlier_assoc (Some x) (Some y) (Some z) = ap (λ n. Some n) (omega arith)
 
-least-append : (xs ys : List ℕ) → least_of (xs ++ ys) ≡ earlier_of (least_of xs) (least_of ys)
+pub least-append : (xs ys : List ℕ) → least_of (xs ++ ys) ≡ earlier_of (least_of xs) (least_of ys)
 unfolding least_of
 least-append [] ys = refl
 least-append (x ∷ xs) ys = ap (earlier_of (Some x)) (least-append xs ys) ∙ sym (earlier_assoc (Some x) (least_of xs) (least_of ys))
@@ -56,7 +56,7 @@ any-append' : {X : Type 0} (p : X → Bool) (xs ys : List X) → list_any p (xs 
 any-append' p [] ys = refl
 any-append' p (x ∷ xs) ys = ap (λ b. p x || b) (any-append' p xs ys) ∙ sym (or_assoc (p x) (list_any p xs) (list_any p ys))
 
-or_none : (a b : Bool) → a || b ≡ false → (a ≡ false) × (b ≡ false)
+pub or_none : (a b : Bool) → a || b ≡ false → (a ≡ false) × (b ≡ false)
 or_none true b h = cc
 or_none false b h = (refl, h)
 

@@ -4,3 +4,12 @@ pub mod BitLemmas
 pub mod FaultLemmas
 pub mod EndLemmas
 pub mod DueLemmas
+pub mod EachLemmas
+pub mod StartLemmas
+pub mod CellLemmas
+pub mod WithinLemmas
+pub mod GoodLemmas
+pub mod DriveLemmas
+pub mod SourceLemmas
+pub mod ReadLemmas
+pub mod NetLemmas

@@ -1,7 +1,7 @@
 -- What drives each bit after some drives.
-use Rattle.std.specs.Prelude.{◌≡◌, ℕ, ◌<◌, Bool, true, false, not, if◌then◌else◌, List, length, find, Option, Some, None, slice_index_or, slice_set}
+use Rattle.std.specs.Prelude.{◌≡◌, ℕ, ◌+◌, ◌<◌, Bool, true, false, ◌&&◌, nat_le, nat_lt, not, if◌then◌else◌, List, length, find, Option, Some, None, slice_index_or, slice_set}
 use Rattle.circuit_types.specs.Items.{bit_count}
-use Rattle.circuit_types.specs.Drives.{Drive, by_cell, by_bit, is_input_bit, is_net}
+use Rattle.circuit_types.specs.Drives.{Drive, by_cell, by_bit, is_input, is_input_bit, is_net}
 use Rattle.circuit_types.specs.Drives as drives
 use Rattle.circuit_types.specs.declared.nets.NetWire.{NetWire}
 use Rattle.circuit_types.specs.declared.nets.SignalBit.{SignalBit}
@@ -42,3 +42,15 @@ is_driven drivers other = true
 abbrev pub driven : List Driver → SignalBit → Driver → List Driver
 driven drivers (bit.Net k) d = if is_nothing (slice_index_or drivers k driver.Nothing) then slice_set drivers k d else drivers
 driven drivers other d = drivers
+
+-- the bit is an input wire's
+abbrev pub has_input : ℕ → NetWire → Bool
+has_input k w = is_input w.port && (nat_le w.first k && nat_lt k (w.first + w.width))
+
+-- one bit is driven by a cell's output
+abbrev pub tied : ℕ → ℕ → SignalBit → Drive
+tied line number bit = record { line = line; target = bit; driver = by_cell number }
+
+-- one bit is driven by another
+abbrev pub joined : ℕ → (SignalBit × SignalBit) → Drive
+joined line pair = record { line = line; target = pair.0; driver = by_bit pair.1 }

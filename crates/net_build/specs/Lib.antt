@@ -6,3 +6,8 @@ pub mod Ends
 pub mod Drivers
 pub mod Names
 pub mod Form
+pub mod Good
+pub mod Drives
+pub mod Sources
+pub mod Reading
+pub mod Built

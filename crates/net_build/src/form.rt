@@ -19,6 +19,7 @@ const MOST_CELLS: usize = 1_048_576;
 /// limits, names, widths or ports. No signal is written out bit by bit.
 pub fn checked_wires(alloc: Global, items: &[Item]) -> Result<Vec<NetWire>, Stop>
     ensures wires { IfOk result (λ ws. ws.items ≡ net_wires_of items.now) }
+    ensures within { IfOk result (λ ws. All (λ w. w.first + w.width ≤ most_bits) ws.items) }
     ensures clear { IfOk result (λ ws. IsClear (form_causes items.now)) }
     ensures due { IfErr result (λ stop. IfRefused stop (λ r. IsDue (form_causes items.now) r)) }
 {

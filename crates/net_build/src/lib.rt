@@ -1,26 +1,29 @@
-//! The wires of a netlist, and what stands on them: the numbers of their bits, the shapes and the bits of
-//! signals, the refusal that is due by limits, names, widths and ports, and the names of bits. For any list of
-//! what drives each bit, where each bit ends.
+//! From the statements of a module to its nets: which bits its wires have, where each bit ends when it is followed
+//! back through the connects, and what its kept cells read.
 //!
-//! [`checked_wires`] looks at all names, widths and ports before any signal is written out bit by bit. Which
-//! cells and connects drive which bits, and what is read, is not here yet.
+//! [`build`] gives the nets of the module that is verified, or the one refusal that is due. It looks at all limits,
+//! names, widths and ports before any signal is written out bit by bit; then at what drives each bit; then at where the
+//! bits end, and so at what is read. [`name_of`] is the printed name of a bit.
 #![tactic(auto)]
 
+mod cells;
 mod drivers;
+mod drives;
 mod expand;
 mod faults;
 mod form;
+mod laws;
 mod name;
+mod net_sources;
+mod nets;
+mod reads;
 mod resolve;
 mod shape;
+mod starts;
 mod wires;
 
-pub use drivers::{Driver, drive};
-pub use expand::bits_of;
-pub use form::checked_wires;
-pub use name::name_in;
-pub use resolve::sources_of;
-pub use wires::Wires;
+pub use laws::each_bit_is_of_a_wire;
+pub use nets::{build, name_of};
 
 #[cfg(test)]
 mod tests;
