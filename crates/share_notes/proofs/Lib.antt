@@ -1,0 +1,11 @@
+pub mod Options
+pub mod Pieces
+pub mod Names
+pub mod Lists
+pub mod FewShares
+pub mod PortOrders
+pub mod Places
+pub mod Firsts
+pub mod Clocking
+pub mod Dues
+pub mod Fitting

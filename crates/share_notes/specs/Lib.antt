@@ -1,0 +1,10 @@
+pub mod Text
+pub mod Reading
+pub mod Marks
+pub mod Lines
+pub mod PortOrder
+pub mod Shares
+pub mod Clocks
+pub mod Roles
+pub mod Causes
+pub mod Known
