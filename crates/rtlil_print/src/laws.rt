@@ -1,0 +1,12 @@
+//! What a reader may want to know of the definitions. Each law is a contract; its body does nothing.
+
+ghost use Rattle.std.specs.Prelude.{ℕ, List, IsSome};
+ghost use Rattle.circuit_types.specs.Top.{top_of};
+ghost use Rattle.circuit_types.specs.declared.tree.Tree.{Tree};
+ghost use Rattle.rtlil_tree.specs.Text.{Stands};
+ghost use Rattle.rtlil_print.specs.Printable.{IsPrintable};
+
+/// A tree that a text stands for is printable, if it has a top module.
+pub fn what_stands_is_printable()
+    ensures { (bytes : List ℕ) (t : Tree) → Stands bytes t → IsSome (top_of t) → IsPrintable t }
+{}
