@@ -5,3 +5,4 @@ pub mod Turns
 pub mod Leasts
 pub mod Holding
 pub mod Deciding
+pub mod Checked

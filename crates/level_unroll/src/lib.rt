@@ -11,3 +11,6 @@ mod queue;
 mod unroll;
 
 pub use unroll::levels;
+
+#[cfg(test)]
+mod tests;

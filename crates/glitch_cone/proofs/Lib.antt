@@ -1,0 +1,11 @@
+pub mod Unions
+pub mod Listed
+pub mod Numbered
+pub mod Behind
+pub mod Halfway
+pub mod Seen
+pub mod Flags
+pub mod Lists
+pub mod Placed
+pub mod Ending
+pub mod Checked
