@@ -1,5 +1,5 @@
 -- Whatever a text says can be printed.
-use Rattle.std.proofs.Common.{◌≡◌, ℕ, zero, suc, ◌+◌, ◌≤◌, ◌^◌, ℤ, pos, neg_ℤ, inl, inr, List, [], ◌∷◌, ◌++◌, map, fold, refl, sym, subst, arith, Option, Some, None, IsSome}
+use Rattle.std.proofs.Common.{◌≡◌, ℕ, zero, suc, ◌≤◌, ◌^◌, ℤ, pos, neg_ℤ, inl, inr, List, [], ◌∷◌, ◌++◌, map, fold, refl, sym, subst, arith, Option, Some, None, IsSome}
 use Rattle.std.specs.List.{flat_map, AllByRecursion}
 use Rattle.rtlil_lex.specs.Forms.{IsId}
 use Rattle.circuit_types.specs.Top.{top_of}

@@ -1,2 +1,15 @@
 pub mod Spacing
 pub mod Bounds
+pub mod Placing
+pub mod Words
+pub mod Strings
+pub mod Inks
+pub mod Pieces
+pub mod Rows
+pub mod Printing
+pub mod PrintedStatements
+pub mod PrintedSignals
+pub mod PrintedWires
+pub mod PrintedItems
+pub mod PrintedNames
+pub mod RoundTrip

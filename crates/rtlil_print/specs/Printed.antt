@@ -3,7 +3,6 @@ use Rattle.std.specs.Prelude.{ℕ, ℤ, pos, ◌==◌, Bool, true, false, if◌t
 use Rattle.std.specs.List.{flat_map}
 use Rattle.std.specs.Fmt.{decimal, signed_decimal}
 use Rattle.std.specs.Ordering.{int_eq}
-use Rattle.circuit_types.specs.declared.signal.Bits.{Bits}
 use Rattle.circuit_types.specs.declared.signal.Value.{Value}
 use Rattle.circuit_types.specs.declared.signal.Value.TheVariants as value
 use Rattle.circuit_types.specs.declared.tree.Tree.{Tree}
