@@ -1,16 +1,29 @@
 -- How the command ends, from what its parts ended with.
-use Rattle.std.proofs.Common.{◌≡◌, ◌≢◌, ℕ, true, false, List, Result, Ok, Err, refl, sym, ap, ◌∙◌, subst, ⊎_elim}
+use Rattle.std.proofs.Common.{◌≡◌, ◌≢◌, ℕ, true, false, List, [], append-nil, Some, Result, Ok, Err, refl, sym, ap, ◌∙◌, subst, ⊎_elim}
+use Rattle.std.specs.Prelude.{IfOk, MatchResult}
+use Rattle.std.specs.declared.alloc.AllocError.{AllocError}
+use Rattle.std.specs.Option.{IfSome}
 use Rattle.std.specs.declared.string.String.{String}
 use Rattle.std.specs.declared.alloc.Global.{Global}
-use Rattle.mv_files.specs.Disk.{Disk, SameFiles}
+use Rattle.mv_files.specs.Disk.{Disk, SameFiles, file_of}
 use Rattle.mv_files.specs.Told.{WhereTold}
+use Rattle.mv_files.specs.Sending.{Adds}
 use Rattle.mv_files.specs.declared.whole.ReadStop.{ReadStop}
 use Rattle.mv_files.specs.declared.whole.ReadStop.TheVariants as read
 use Rattle.mv_files.proofs.ToldLemmas.{told_same}
+use Rattle.circuit_types.specs.declared.probes.Model.{Model}
+use Rattle.circuit_types.specs.declared.refusal.Refusal.{Refusal}
+use Rattle.expr_table.specs.declared.instance.Notion.{Notion}
 use Rattle.maskverif_cli.specs.declared.status.Status.{Status}
-use Rattle.maskverif_cli.specs.declared.status.Status.TheVariants.{ReadFault, WriteFault, NoMemory}
-use Rattle.maskverif_cli.specs.Answer.{IsDue, is_answer}
-use Rattle.maskverif_cli.specs.Run.{Outside, Finishes, Runs}
+use Rattle.maskverif_cli.specs.declared.status.Status.TheVariants.{NoFile, ReadFault, WriteFault, NoMemory, Refused}
+use Rattle.maskverif_cli.specs.declared.verify.Reply.{Reply}
+use Rattle.maskverif_cli.specs.Answer.{Asked, NamesNoFile, IsDue, IsVerdict, is_answer}
+use Rattle.maskverif_cli.specs.declared.netlist.Accepted.{Accepted}
+use Rattle.maskverif_cli.specs.Known.{Keeps}
+use Rattle.maskverif_cli.specs.Netlist.{HasRefusal}
+use Rattle.maskverif_cli.specs.Report.{refused_report}
+use Rattle.maskverif_cli.specs.Run.{Outside, Finishes, Stays, Runs}
+use Rattle.maskverif_cli.proofs.Due.{verdict-due, verdict-answer, refused-verdict}
 
 -- the files after the netlist was read
 pub record IsRead (old new : Outside) : Type 0 where
@@ -26,9 +39,25 @@ module _ {T : Type 0} where
   pub too_long-no_fault : (stop : ReadStop) → stop ≡ read.TooLong → let failed : Result T ReadStop = Err stop in failed ≢ Err read.ReadFault
   too_long-no_fault stop e same = let stops : stop ≡ read.ReadFault = cc in let wrong : read.TooLong ≡ read.ReadFault = sym e ∙ stops in cc
 
+  pub missing-no_fault : (stop : ReadStop) → stop ≡ read.Missing → let failed : Result T ReadStop = Err stop in failed ≢ Err read.ReadFault
+  missing-no_fault stop e same = let stops : stop ≡ read.ReadFault = cc in let wrong : read.Missing ≡ read.ReadFault = sym e ∙ stops in cc
+
 -- they were not read
 pub unread : (old new : Outside) → new.disk ≡ old.disk → new.read_faults ≡ old.read_faults → new.write_faults ≡ old.write_faults → IsRead old new
 unread old new disk reads writes = record { files = told_same SameFiles (λ (d : Disk). record { files = refl }) old.disk new.disk disk; reads = reads; writes = writes }
+
+-- the reply to a netlist that is refused
+pub refused-reply : (notion : Notion) (model : Model) (bytes : List ℕ) (why : Refusal) (reply : Result Reply AllocError) → HasRefusal notion model bytes why
+    → IfOk reply (λ r. r.status ≡ Refused why) → IfOk reply (λ r. r.text.items ≡ refused_report why) → IfOk reply (λ r. IsVerdict notion model bytes r.status r.text.items)
+refused-reply notion model bytes why (Ok r) due is text = refused-verdict notion model bytes why r.status r.text.items due is text
+refused-reply notion model bytes why (Err e) due is text = tt
+
+-- the reply to a netlist that is accepted
+pub kept-reply : (notion : Notion) (model : Model) (bytes : List ℕ) (kept : Accepted) (reply : Result Reply AllocError) → Keeps notion model bytes kept
+    → IfOk reply (λ r. (some : List ℕ) → Keeps notion model some kept → IsVerdict notion model some r.status r.text.items)
+    → IfOk reply (λ r. IsVerdict notion model bytes r.status r.text.items)
+kept-reply notion model bytes kept (Ok r) keeps h = h bytes keeps
+kept-reply notion model bytes kept (Err e) keeps h = tt
 
 module _ (words : List (String Global)) (old new : Outside) where
   is_no_fault : (status fault : Status) → is_answer status ≡ true → is_answer fault ≡ false → status ≢ fault
@@ -56,3 +85,34 @@ module _ (words : List (String Global)) (old new : Outside) where
         files = read.files;
       }))
       ends
+
+  -- a reply was sent, or a part of it; or there was no memory for one
+  pub sent : (asked : Asked words) (bytes : List ℕ) (reply : Result Reply AllocError) (result : Status) → IfSome old.disk (λ d. file_of asked.name d ≡ Some bytes)
+      → IfOk reply (λ r. IsVerdict asked.notion asked.model bytes r.status r.text.items) → IsRead old new
+      → MatchResult reply (λ r. Finishes r.text.items r.status old.written new.written old.sink_faults new.sink_faults result)
+      (λ e. (result ≡ NoMemory) × Stays old.written new.written old.sink_faults new.sink_faults)
+      → Runs words old new result
+  sent asked bytes (Ok r) result there verdict read ends =
+      finished r.text.items r.status result
+      (verdict-due words old.disk r.status r.text.items (record { asked = asked; bytes = bytes; there = there; verdict = verdict }))
+      (verdict-answer asked.notion asked.model bytes r.status r.text.items verdict) read ends
+  sent asked bytes (Err e) result there verdict read ends =
+      subst (Runs words old new) (sym ends.0) (record {
+        answer = λ wrong. cc;
+        read_fault = λ wrong. cc;
+        write_fault = λ wrong. cc;
+        no_memory = λ _. ends.1.0;
+        faultless = record { reads = λ _. read.reads; sends = λ _. ends.1.1; writes = read.writes };
+        files = read.files;
+      })
+
+  -- no text is due, and none was written
+  pub no-file : NamesNoFile words old.disk → IsRead old new → new.written ≡ old.written → new.sink_faults ≡ old.sink_faults → Runs words old new NoFile
+  no-file missing read written sends = record {
+    answer = λ _. record { text = []; due = (missing, refl); written = told_same (Adds []) (λ (w : List ℕ). sym (append-nil w)) old.written new.written written };
+    read_fault = λ wrong. cc;
+    write_fault = λ wrong. cc;
+    no_memory = λ wrong. cc;
+    faultless = record { reads = λ _. read.reads; sends = λ _. sends; writes = read.writes };
+    files = read.files;
+  }

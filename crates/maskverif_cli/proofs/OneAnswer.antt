@@ -1,125 +1,160 @@
 -- At most one answer is due.
-use Rattle.std.proofs.Common.{◌≡◌, ◌⊎◌, ℕ, zero, suc, ◌+◌, List, [], ◌∷◌, length, map, Some, None, refl, sym, ap, ◌∙◌, subst, arith, ⊎_elim, inl, inr}
-use Rattle.std.specs.List.{range_with_len, slice_get}
+use Rattle.std.proofs.Common.{◌≡◌, ◌⊎◌, ℕ, ◌<◌, List, [], length, map, true, false, Option, Some, None, Ok, refl, sym, ap, ◌∙◌, subst, arith, ⊎_elim, inl, inr}
+use Rattle.std.proofs.lemmas.Bool.{cases_lt}
+use Rattle.std.specs.Prelude.{IsSome}
 use Rattle.std.specs.declared.string.String.{String}
 use Rattle.std.specs.declared.alloc.Global.{Global}
-use Rattle.mv_files.specs.Disk.{Disk, file_of}
+use Rattle.std.specs.Option.{IfSome}
+use Rattle.mv_files.specs.Disk.{Disk, file_of, IsMissing}
+use Rattle.circuit_types.specs.declared.probes.Model.{Model}
+use Rattle.circuit_types.specs.declared.refusal.Refusal.{Refusal}
+use Rattle.circuit_types.specs.declared.tree.Tree.{Tree}
+use Rattle.circuit_types.specs.Due.{IsDue as IsCauseDue}
+use Rattle.circuit_types.specs.Items.{top_items}
+use Rattle.circuit_types.specs.Nets.{net_causes, AreNets}
+use Rattle.circuit_types.specs.Top.{top_of}
+use Rattle.circuit_types.proofs.DueOnce.{due_once, clear_or_due}
 use Rattle.expr_table.specs.declared.instance.Instance.{Instance}
-use Rattle.expr_table.specs.declared.instance.ProbeRoots.{ProbeRoots}
-use Rattle.expr_table.specs.declared.node.Row.{Row}
-use Rattle.expr_table.specs.Instance.{rows_of}
-use Rattle.expr_table.specs.Table.{Table, IsTable, terms, nodes_of}
-use Rattle.narrow_netlist.specs.declared.netlist.Netlist.{Netlist}
-use Rattle.narrow_netlist.specs.Narrow.{IsNarrow}
-use Rattle.once_random.specs.Tuples.{first_unproved, tuples_of_one}
+use Rattle.expr_table.specs.declared.instance.Notion.{Notion}
+use Rattle.net_build.proofs.NetLemmas.{answers_nets}
+use Rattle.once_random.specs.Tuples.{tuples_of_one}
+use Rattle.rtlil_tree.specs.Text.{Stands}
+use Rattle.rtlil_tree.specs.Refusals as text
+use Rattle.term_build.specs.Laws.{OneInstance}
 use Rattle.maskverif_cli.specs.declared.status.Status.{Status}
 use Rattle.maskverif_cli.specs.declared.status.Status.TheVariants.{Secure, Unproved, Usage, Refused, NoFile, ReadFault, WriteFault, NoMemory}
-use Rattle.maskverif_cli.specs.declared.status.Refusal.{Refusal}
-use Rattle.maskverif_cli.specs.declared.status.Refusal.TheVariants.{NotYet}
-use Rattle.maskverif_cli.specs.NetlistInstance.{ProbedWire, HasInstance, probed_wires}
-use Rattle.maskverif_cli.specs.Report.{secure_report, unproved_report, usage_text}
-use Rattle.maskverif_cli.proofs.Due.{same-name}
-use Rattle.maskverif_cli.specs.Answer.{IsDue, IsVerdict, IsSecure, IsUnproved, NotTaken, NamesNoFile, NamesNetlist, printed}
+use Rattle.maskverif_cli.specs.Netlist.{Netlist, IsTreeOf, IsNetlistOf, IsAcceptedAs, HasRefusal, of_length, of_text, of_module, of_netlist, netlist_causes, probe_name, probes, circuit, roles}
+use Rattle.maskverif_cli.specs.Report.{secure_report, unproved_report, refused_report, usage_text}
+use Rattle.maskverif_cli.specs.Verdict.{IsSecure, IsUnproved, IsProvableTuple, HasRank, Means}
+use Rattle.maskverif_cli.specs.Answer.{IsDue, IsVerdict, IsRefused, NotTaken, NamesNoFile, NamesNetlist, NamesAccepted, is_decided}
+use Rattle.maskverif_cli.proofs.Taken.{same-asked}
+use Rattle.maskverif_cli.proofs.Singles.{ranked}
 
--- the law that a netlist has one instance
-abbrev pub OneInstance : Type 0
-OneInstance = (netlist : Netlist) (x y : Instance) → HasInstance netlist x → HasInstance netlist y → x ≡ y
+-- the laws of texts
+abbrev pub OneTree : Type 0
+OneTree = (bytes : List ℕ) (t u : Tree) → Stands bytes t → Stands bytes u → t ≡ u
 
-rows-same : (xs ys : List Row) → map (λ (row : Row). row.0) xs ≡ map (λ (row : Row). row.0) ys → xs ≡ ys
-rows-same [] [] e = refl
-rows-same (x ∷ xs) (y ∷ ys) e =
-    let first : x.0 ≡ y.0 = cc in
-    let rest : map (λ (row : Row). row.0) xs ≡ map (λ (row : Row). row.0) ys = cc in
-    let more = rows-same xs ys rest in
-    λ i. (record { 0 = first i }) ∷ more i
-rows-same [] (y ∷ ys) e = cc
-rows-same (x ∷ xs) [] e = cc
+abbrev pub OneRefusal : Type 0
+OneRefusal = (bytes : List ℕ) (r s : Refusal) → text.IsRefused bytes r → text.IsRefused bytes s → r ≡ s
 
-probes-same : (ps qs : List ProbeRoots) → map rows_of ps ≡ map rows_of qs → map (λ (p : ProbeRoots). p.output) ps ≡ map (λ (p : ProbeRoots). p.output) qs → ps ≡ qs
-probes-same [] [] e f = refl
-probes-same (p ∷ ps) (q ∷ qs) e f =
-    let rows : rows_of p ≡ rows_of q = cc in
-    let output : p.output ≡ q.output = cc in
-    let rests : map rows_of ps ≡ map rows_of qs = cc in
-    let outputs : map (λ (p : ProbeRoots). p.output) ps ≡ map (λ (p : ProbeRoots). p.output) qs = cc in
-    let first = rows-same p.rows q.rows rows in
-    let more = probes-same ps qs rests outputs in
-    λ i. (record { rows = first i; output = output i }) ∷ more i
-probes-same [] (q ∷ qs) e f = cc
-probes-same (p ∷ ps) [] e f = cc
+abbrev pub NoTopThen : Type 0
+NoTopThen = (bytes : List ℕ) (t : Tree) (r : Refusal) → Stands bytes t → text.IsRefused bytes r → top_of t ≡ None
 
--- a netlist has one instance, since a table's terms give its nodes
-pub one-instance : ((t : Table) → IsTable t → t.nodes ≡ nodes_of (terms t.nodes)) → OneInstance
-one-instance given n x y sx sy =
-    let notion = sx.notion ∙ sym sy.notion in
-    let inputs = sx.inputs ∙ sym sy.inputs in
-    let randoms = sx.randoms ∙ sym sy.randoms in
-    let nodes = given x.table sx.table ∙ ap nodes_of (sx.rows ∙ sym sy.rows) ∙ sym (given y.table sy.table) in
-    let probes = probes-same x.probes y.probes (sx.roots ∙ sym sy.roots) (sx.outputs ∙ sym sy.outputs) in
-    let groups = sx.groups ∙ sym sy.groups in
-    λ i. record { notion = notion i; table = record { inputs = inputs i; randoms = randoms i; nodes = nodes i }; probes = probes i; groups = groups i }
+module _ (one_tree : OneTree) where
+  same-tree : (bytes : List ℕ) (t u : Tree) → IsTreeOf bytes t → IsTreeOf bytes u → t ≡ u
+  same-tree bytes t u a b = one_tree bytes t u a.stands b.stands
 
-single-from : (a n k q : ℕ) → slice_get (map (λ p. p ∷ []) (range_with_len a n)) k ≡ Some (q ∷ []) → q ≡ a + k
-single-from a zero zero q e = cc
-single-from a zero (suc k) q e = cc
-single-from a (suc n) zero q e = let same : a ≡ q = cc in omega arith
-single-from a (suc n) (suc k) q e = omega (arith, single-from (a + 1) n k q e)
+  pub same-netlist : (bytes : List ℕ) (n m : Netlist) → IsNetlistOf bytes n → IsNetlistOf bytes m → n ≡ m
+  same-netlist bytes n m a b =
+      let items : n.items ≡ m.items = a.items ∙ ap top_items (same-tree bytes a.tree b.tree a.tree_is b.tree_is) ∙ sym b.items in
+      let made : AreNets m.items n.nets = subst (λ is. AreNets is n.nets) items a.nets in
+      let nets : n.nets ≡ m.nets = answers_nets m.items (Ok n.nets) m.nets (record { nets = made; clear = b.clear }) tt b.nets b.clear in
+      λ i. record { items = items i; nets = nets i }
 
-module _ (one : (bytes : List ℕ) (m n : Netlist) → IsNarrow bytes m → IsNarrow bytes n → m ≡ n) (instance : OneInstance) where
-  same-instance : (bytes : List ℕ) (m n : Netlist) (x y : Instance) → IsNarrow bytes m → IsNarrow bytes n → HasInstance m x → HasInstance n y → x ≡ y
-  same-instance bytes m n x y nm nn sx sy = instance n x y (subst (λ k. HasInstance k x) (one bytes m n nm nn) sx) sy
+module _ (one_tree : OneTree) (one_refusal : OneRefusal) (no_top : NoTopThen) where
+  -- a text that is refused has no tree with a top module
+  text-tree : (bytes : List ℕ) (t : Tree) (r : Refusal) → IsTreeOf bytes t → text.IsRefused bytes r → ⊥
+  text-tree bytes t r a refused = let wrong : false ≡ true = subst IsSome (no_top bytes t r a.stands refused) a.top in absurd cc
 
-  secure-secure : (bytes a b : List ℕ) → IsSecure bytes a → IsSecure bytes b → a ≡ b
-  secure-secure bytes a b s t =
-      let x = same-instance bytes s.netlist t.netlist s.instance t.instance s.means.text t.means.text s.means.instance t.means.instance in
-      s.report ∙ ap (λ (i : Instance). secure_report (length i.probes) (length (tuples_of_one i))) x ∙ sym t.report
+  module-netlist : (bytes : List ℕ) (t : Tree) (n : Netlist) (r : Refusal) → IsTreeOf bytes t → IsCauseDue (net_causes (top_items t)) r → IsNetlistOf bytes n → ⊥
+  module-netlist bytes t n r a due b =
+      let items : top_items t ≡ n.items = ap top_items (same-tree one_tree bytes t b.tree a b.tree_is) ∙ sym b.items in
+      clear_or_due (net_causes n.items) r b.clear (subst (λ is. IsCauseDue (net_causes is) r) items due)
 
-  secure-unproved : (bytes tuple a b : List ℕ) → IsSecure bytes a → IsUnproved bytes tuple b → ⊥
-  secure-unproved bytes tuple a b s t =
-      let x = same-instance bytes s.netlist t.netlist s.instance t.instance s.means.text t.means.text s.means.instance t.means.instance in
-      let wrong : None ≡ Some tuple = sym s.all_proved ∙ ap (λ (i : Instance). first_unproved i (tuples_of_one i)) x ∙ t.first in
-      cc
+  module _ (notion : Notion) (model : Model) (bytes : List ℕ) where
+    pub one-refusal : (r s : Refusal) → HasRefusal notion model bytes r → HasRefusal notion model bytes s → r ≡ s
+    one-refusal r s (of_length l e) (of_length k f) = e ∙ sym f
+    one-refusal r s (of_length l e) (of_text k f) = absurd (omega arith)
+    one-refusal r s (of_length l e) (of_module t k f) = absurd (omega (arith, k.short))
+    one-refusal r s (of_length l e) (of_netlist n k f) = absurd (omega (arith, k.tree_is.short))
+    one-refusal r s (of_text l e) (of_length k f) = absurd (omega arith)
+    one-refusal r s (of_text l e) (of_text k f) = one_refusal bytes r s e f
+    one-refusal r s (of_text l e) (of_module t k f) = absurd (text-tree bytes t r k e)
+    one-refusal r s (of_text l e) (of_netlist n k f) = absurd (text-tree bytes k.tree r k.tree_is e)
+    one-refusal r s (of_module t l e) (of_length k f) = absurd (omega (arith, l.short))
+    one-refusal r s (of_module t l e) (of_text k f) = absurd (text-tree bytes t s l f)
+    one-refusal r s (of_module t l e) (of_module u k f) =
+        due_once (net_causes (top_items u)) r s (subst (λ v. IsCauseDue (net_causes (top_items v)) r) (same-tree one_tree bytes t u l k) e) f
+    one-refusal r s (of_module t l e) (of_netlist n k f) = absurd (module-netlist bytes t n r l e k)
+    one-refusal r s (of_netlist n l e) (of_length k f) = absurd (omega (arith, l.tree_is.short))
+    one-refusal r s (of_netlist n l e) (of_text k f) = absurd (text-tree bytes l.tree s l.tree_is f)
+    one-refusal r s (of_netlist n l e) (of_module t k f) = absurd (module-netlist bytes t n s k f l)
+    one-refusal r s (of_netlist n l e) (of_netlist m k f) =
+        due_once (netlist_causes notion model m) r s (subst (λ v. IsCauseDue (netlist_causes notion model v) r) (same-netlist one_tree bytes n m l k) e) f
 
-  unproved-unproved : (bytes tuple other a b : List ℕ) → IsUnproved bytes tuple a → IsUnproved bytes other b → (tuple ≡ other) × (a ≡ b)
-  unproved-unproved bytes tuple other a b s t =
-      let n = one bytes s.netlist t.netlist s.means.text t.means.text in
-      let x = same-instance bytes s.netlist t.netlist s.instance t.instance s.means.text t.means.text s.means.instance t.means.instance in
-      let firsts : Some tuple ≡ Some other = sym s.first ∙ ap (λ (i : Instance). first_unproved i (tuples_of_one i)) x ∙ t.first in
-      let tuples : tuple ≡ other = cc in
-      let singles : s.probe ∷ [] ≡ t.probe ∷ [] = sym s.single ∙ tuples ∙ t.single in
-      let probe : s.probe ≡ t.probe = cc in
-      let named : Some s.name ≡ Some t.name = sym s.named ∙ (λ i. slice_get (map (λ (wire : ProbedWire). wire.name) (probed_wires (n i))) (probe i)) ∙ t.named in
-      let name : s.name ≡ t.name = cc in
-      let rank_s = single-from 0 (length s.instance.probes) s.rank s.probe (s.ranked ∙ ap (λ (u : List ℕ). Some u) s.single) in
-      let rank_t = single-from 0 (length t.instance.probes) t.rank t.probe (t.ranked ∙ ap (λ (u : List ℕ). Some u) t.single) in
-      let rank : s.rank ≡ t.rank = omega arith in
-      (tuples, s.report ∙ (λ i. unproved_report (length (x i).probes) (length (tuples_of_one (x i))) (rank i) (printed (name i))) ∙ sym t.report)
+    pub accepted-refused : (n : Netlist) (r : Refusal) → IsAcceptedAs notion model bytes n → HasRefusal notion model bytes r → ⊥
+    accepted-refused n r a (of_length l e) = absurd (omega (arith, a.netlist.tree_is.short))
+    accepted-refused n r a (of_text l e) = text-tree bytes a.netlist.tree r a.netlist.tree_is e
+    accepted-refused n r a (of_module t l e) = module-netlist bytes t n r l e a.netlist
+    accepted-refused n r a (of_netlist m l e) =
+        clear_or_due (netlist_causes notion model n) r a.clear (subst (λ v. IsCauseDue (netlist_causes notion model v) r) (same-netlist one_tree bytes m n l a.netlist) e)
 
-  same-refusal : (y z : Refusal) → y ≡ z
-  same-refusal NotYet NotYet = refl
+  module _ (one_instance : OneInstance) (notion : Notion) (model : Model) (bytes : List ℕ) where
+    same-instance : (n m : Netlist) (x y : Instance) → Means notion model bytes n x → Means notion model bytes m y → x ≡ y
+    same-instance n m x y a b =
+        let same = same-netlist one_tree bytes n m a.accepted.netlist b.accepted.netlist in
+        one_instance notion (roles m) (circuit m) (probes model m) x y
+        (subst (λ v. Means notion model bytes v x) same a).instance b.instance
 
-  verdicts : (bytes : List ℕ) (s t : Status) (a b : List ℕ) → IsVerdict bytes s a → IsVerdict bytes t b → (s ≡ t) × (a ≡ b)
-  verdicts bytes Secure Secure a b v w = (refl, secure-secure bytes a b v w)
-  verdicts bytes Secure (Unproved u) a b v w = absurd (secure-unproved bytes u.items a b v w)
-  verdicts bytes Secure (Refused y) a b v w = absurd (w.not_narrow v.netlist v.means.text)
-  verdicts bytes (Unproved u) Secure a b v w = absurd (secure-unproved bytes u.items b a w v)
-  verdicts bytes (Unproved u) (Unproved q) a b v w = let same = unproved-unproved bytes u.items q.items a b v w in (λ i. Unproved (record { items = same.0 i }), same.1)
-  verdicts bytes (Unproved u) (Refused y) a b v w = absurd (w.not_narrow v.netlist v.means.text)
-  verdicts bytes (Refused y) Secure a b v w = absurd (v.not_narrow w.netlist w.means.text)
-  verdicts bytes (Refused y) (Unproved u) a b v w = absurd (v.not_narrow w.netlist w.means.text)
-  verdicts bytes (Refused y) (Refused z) a b v w = (ap Refused (same-refusal y z), v.report ∙ sym w.report)
-  verdicts bytes Usage t a b v w = absurd v
-  verdicts bytes NoFile t a b v w = absurd v
-  verdicts bytes ReadFault t a b v w = absurd v
-  verdicts bytes WriteFault t a b v w = absurd v
-  verdicts bytes NoMemory t a b v w = absurd v
-  verdicts bytes s Usage a b v w = absurd w
-  verdicts bytes s NoFile a b v w = absurd w
-  verdicts bytes s ReadFault a b v w = absurd w
-  verdicts bytes s WriteFault a b v w = absurd w
-  verdicts bytes s NoMemory a b v w = absurd w
+    secure-secure : (a b : List ℕ) → IsSecure notion model bytes a → IsSecure notion model bytes b → a ≡ b
+    secure-secure a b s t =
+        let x = same-instance s.netlist t.netlist s.instance t.instance s.means t.means in
+        s.report ∙ ap (λ (i : Instance). secure_report notion model (length i.probes) (length (tuples_of_one i))) x ∙ sym t.report
 
-  module _ (words : List (String Global)) (disk : Disk) where
+    secure-unproved : (tuple a b : List ℕ) → IsSecure notion model bytes a → IsUnproved notion model bytes tuple b → ⊥
+    secure-unproved tuple a b s t =
+        let x = same-instance s.netlist t.netlist s.instance t.instance s.means t.means in
+        let ranked_there = subst (λ (i : Instance). HasRank i tuple t.rank) (sym x) t.ranked in
+        t.not_provable (subst (λ (i : Instance). IsProvableTuple i tuple) x (s.all tuple t.rank ranked_there))
+
+    -- of two unproved tuples neither has the lesser rank
+    not-before : (tuple other a b : List ℕ) (s : IsUnproved notion model bytes tuple a) (t : IsUnproved notion model bytes other b) → s.rank < t.rank → ⊥
+    not-before tuple other a b s t lt =
+        let x = same-instance s.netlist t.netlist s.instance t.instance s.means t.means in
+        let there = subst (λ (i : Instance). HasRank i tuple s.rank) x s.ranked in
+        s.not_provable (subst (λ (i : Instance). IsProvableTuple i tuple) (sym x) (t.first tuple s.rank lt there))
+
+    unproved-unproved : (tuple other a b : List ℕ) → IsUnproved notion model bytes tuple a → IsUnproved notion model bytes other b → (tuple ≡ other) × (a ≡ b)
+    unproved-unproved tuple other a b s t =
+        let n = same-netlist one_tree bytes s.netlist t.netlist s.means.accepted.netlist t.means.accepted.netlist in
+        let x = same-instance s.netlist t.netlist s.instance t.instance s.means t.means in
+        let low = not-before tuple other a b s t in
+        let high = not-before other tuple b a t s in
+        let rank : s.rank ≡ t.rank = ⊎_elim (λ lt. absurd (low lt)) (λ ge. ⊎_elim (λ lt. absurd (high lt)) (λ le. omega arith) (cases_lt t.rank s.rank)) (cases_lt s.rank t.rank) in
+        let here = subst (λ k. HasRank s.instance tuple k) rank s.ranked in
+        let there = subst (λ (i : Instance). HasRank i tuple t.rank) x here in
+        let one = ranked 0 (length t.instance.probes) t.rank tuple there in
+        let two = ranked 0 (length t.instance.probes) t.rank other t.ranked in
+        let tuples : tuple ≡ other = one.is ∙ sym two.is in
+        (tuples, s.report ∙ (λ i. unproved_report notion model (length (x i).probes) (length (tuples_of_one (x i))) (rank i) (map (probe_name model (n i)) (tuples i))) ∙ sym t.report)
+
+    refused-refused : (r s : Refusal) (a b : List ℕ) → IsRefused notion model bytes r a → IsRefused notion model bytes s b → (r ≡ s) × (a ≡ b)
+    refused-refused r s a b v w =
+        let same = one-refusal notion model bytes r s v.refusal w.refusal in
+        (same, v.report ∙ ap refused_report same ∙ sym w.report)
+
+    verdicts : (s t : Status) (a b : List ℕ) → IsVerdict notion model bytes s a → IsVerdict notion model bytes t b → (s ≡ t) × (a ≡ b)
+    verdicts Secure Secure a b v w = (refl, secure-secure a b v w)
+    verdicts Secure (Unproved u) a b v w = absurd (secure-unproved u.items a b v w)
+    verdicts Secure (Refused y) a b v w = absurd (accepted-refused notion model bytes v.netlist y v.means.accepted w.refusal)
+    verdicts (Unproved u) Secure a b v w = absurd (secure-unproved u.items b a w v)
+    verdicts (Unproved u) (Unproved q) a b v w = let same = unproved-unproved u.items q.items a b v w in (λ i. Unproved (record { items = same.0 i }), same.1)
+    verdicts (Unproved u) (Refused y) a b v w = absurd (accepted-refused notion model bytes v.netlist y v.means.accepted w.refusal)
+    verdicts (Refused y) Secure a b v w = absurd (accepted-refused notion model bytes w.netlist y w.means.accepted v.refusal)
+    verdicts (Refused y) (Unproved u) a b v w = absurd (accepted-refused notion model bytes w.netlist y w.means.accepted v.refusal)
+    verdicts (Refused y) (Refused z) a b v w = let same = refused-refused y z a b v w in (ap Refused same.0, same.1)
+    verdicts Usage t a b v w = absurd v
+    verdicts NoFile t a b v w = absurd v
+    verdicts ReadFault t a b v w = absurd v
+    verdicts WriteFault t a b v w = absurd v
+    verdicts NoMemory t a b v w = absurd v
+    verdicts s Usage a b v w = absurd w
+    verdicts s NoFile a b v w = absurd w
+    verdicts s ReadFault a b v w = absurd w
+    verdicts s WriteFault a b v w = absurd w
+    verdicts s NoMemory a b v w = absurd w
+
+  module _ (one_instance : OneInstance) (words : List (String Global)) (disk : Disk) where
     abbrev Untaken : Status → List ℕ → Type 0
     Untaken s a = NotTaken words × (s ≡ Usage) × (a ≡ usage_text)
 
@@ -139,21 +174,54 @@ module _ (one : (bytes : List ℕ) (m n : Netlist) → IsNarrow bytes m → IsNa
 
     missing-netlist : (s t : Status) (a b : List ℕ) → Missing s a → NamesNetlist words (Some disk) t b → ⊥
     missing-netlist s t a b m n =
-        let wrong : None ≡ Some n.bytes = sym m.0.missing ∙ ap (λ name. file_of name disk) (same-name words m.0.name n.name m.0.taken n.taken) ∙ n.there in
+        let wrong : None ≡ Some n.bytes = sym m.0.missing ∙ ap (λ name. file_of name disk) (same-asked words m.0.asked n.asked).name ∙ n.there in
         cc
 
     netlist-netlist : (s t : Status) (a b : List ℕ) → NamesNetlist words (Some disk) s a → NamesNetlist words (Some disk) t b → (s ≡ t) × (a ≡ b)
     netlist-netlist s t a b m n =
-        let there : Some m.bytes ≡ Some n.bytes = sym m.there ∙ ap (λ name. file_of name disk) (same-name words m.name n.name m.taken n.taken) ∙ n.there in
+        let asked = same-asked words m.asked n.asked in
+        let there : Some m.bytes ≡ Some n.bytes = sym m.there ∙ ap (λ name. file_of name disk) asked.name ∙ n.there in
         let bytes : m.bytes ≡ n.bytes = cc in
-        verdicts n.bytes s t a b (subst (λ bs. IsVerdict bs s a) bytes m.verdict) n.verdict
+        let one = subst (λ v. IsVerdict v m.asked.model m.bytes s a) asked.notion m.verdict in
+        let two = subst (λ v. IsVerdict n.asked.notion v m.bytes s a) asked.model one in
+        let three = subst (λ v. IsVerdict n.asked.notion n.asked.model v s a) bytes two in
+        verdicts one_instance n.asked.notion n.asked.model n.bytes s t a b three n.verdict
+
+    not-untaken : (s t : Status) (a b : List ℕ) → Untaken s a → Missing t b ⊎ NamesNetlist words (Some disk) t b → ⊥
+    not-untaken s t a b u v =
+        ⊎_elim (λ m. u.0 m.0.asked.notion m.0.asked.model m.0.asked.name m.0.asked.taken) (λ n. u.0 n.asked.notion n.asked.model n.asked.name n.asked.taken) v
 
     pub one-due : (s t : Status) (a b : List ℕ) → IsDue words (Some disk) s a → IsDue words (Some disk) t b → (s ≡ t) × (a ≡ b)
     one-due s t a b h k =
         ⊎_elim
-        (λ u. ⊎_elim (λ v. (u.1 ∙ sym v.1, u.2 ∙ sym v.2)) (λ v. ⊎_elim (λ m. absurd (u.0 m.0.name m.0.taken)) (λ n. absurd (u.0 n.name n.taken)) v) (kind t b k))
-        (λ u. ⊎_elim
-        (λ m. ⊎_elim (λ v. absurd (v.0 m.0.name m.0.taken)) (λ v. ⊎_elim (λ q. (m.1 ∙ sym q.1, m.2 ∙ sym q.2)) (λ n. absurd (missing-netlist s t a b m n)) v) (kind t b k))
-        (λ n. ⊎_elim (λ v. absurd (v.0 n.name n.taken)) (λ v. ⊎_elim (λ q. absurd (missing-netlist t s b a q n)) (λ r. netlist-netlist s t a b n r) v) (kind t b k))
+        (λ u. ⊎_elim (λ v. (u.1 ∙ sym v.1, u.2 ∙ sym v.2)) (λ v. absurd (not-untaken s t a b u v)) (kind t b k))
+        (λ u. ⊎_elim (λ v. absurd (not-untaken t s b a v u))
+        (λ v. ⊎_elim
+        (λ m. ⊎_elim (λ q. (m.1 ∙ sym q.1, m.2 ∙ sym q.2)) (λ n. absurd (missing-netlist s t a b m n)) v)
+        (λ n. ⊎_elim (λ q. absurd (missing-netlist t s b a q n)) (λ r. netlist-netlist s t a b n r) v)
         u)
+        (kind t b k))
         (kind s a h)
+
+  -- an accepted netlist is decided, where nothing failed
+  pub decided : (words : List (String Global)) (disk : Option Disk) (status : Status) (a : List ℕ) → NamesAccepted words disk → IsDue words disk status a → is_decided status ≡ true
+  decided words disk Secure a n due = refl
+  decided words disk (Unproved tuple) a n due = refl
+  decided words disk NoMemory a n due = refl
+  decided words disk Usage a n due = absurd (due.0 n.asked.notion n.asked.model n.asked.name n.asked.taken)
+  decided words disk NoFile a n due =
+      let same = (same-asked words due.0.asked n.asked).name in
+      let missing = subst (IsMissing due.0.asked.name) n.tells due.0.missing in
+      let wrong : None ≡ Some n.bytes = sym missing ∙ ap (λ name. file_of name n.told) same ∙ n.there in
+      cc
+  decided words disk ReadFault a n due = absurd due
+  decided words disk WriteFault a n due = absurd due
+  decided words disk (Refused why) a n due =
+      let same = same-asked words due.asked n.asked in
+      let there = subst (λ o. IfSome o (λ d. file_of due.asked.name d ≡ Some due.bytes)) n.tells due.there in
+      let both : Some due.bytes ≡ Some n.bytes = sym there ∙ ap (λ name. file_of name n.told) same.name ∙ n.there in
+      let bytes : due.bytes ≡ n.bytes = cc in
+      let one = subst (λ v. HasRefusal v due.asked.model due.bytes why) same.notion due.verdict.refusal in
+      let two = subst (λ v. HasRefusal n.asked.notion v due.bytes why) same.model one in
+      let three = subst (λ v. HasRefusal n.asked.notion n.asked.model v why) bytes two in
+      absurd (accepted-refused n.asked.notion n.asked.model n.bytes n.netlist why n.accepted three)

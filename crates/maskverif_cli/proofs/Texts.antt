@@ -1,20 +1,13 @@
--- The reports, put together from the left.
-use Rattle.std.proofs.Common.{◌≡◌, ℕ, List, [], ◌∷◌, ◌++◌, codes, append_assoc}
+-- The report on an unproved tuple, put together from the left.
+use Rattle.std.proofs.Common.{◌≡◌, ℕ, List, [], ◌∷◌, ◌++◌, codes, append_assoc, append-nil}
 use Rattle.std.specs.Fmt.{decimal}
-use Rattle.maskverif_cli.specs.Report.{line, secure_report, unproved_report}
+use Rattle.circuit_types.specs.declared.probes.Model.{Model}
+use Rattle.expr_table.specs.declared.instance.Notion.{Notion}
+use Rattle.maskverif_cli.specs.Report.{line, counts_of, unproved_report}
 
-two_lines : (a p d t e : List ℕ) → a ++ ((p ++ d) ++ 10 ∷ []) ++ ((t ++ e) ++ 10 ∷ []) ≡ (a ++ p) ++ (d ++ ((10 ∷ t) ++ (e ++ 10 ∷ [])))
-two_lines a p d t e = simp append_assoc
+pieces : (a r d p n end : List ℕ) → (a ++ ((r ++ d) ++ end)) ++ (((p ++ n) ++ end) ++ []) ≡ ((a ++ (r ++ (d ++ (end ++ p)))) ++ n) ++ end
+pieces a r d p n end = simp (append_assoc, append-nil)
 
-four_lines : (a p d t e r f n g end : List ℕ) → (a ++ ((p ++ d) ++ end) ++ ((t ++ e) ++ end)) ++ ((r ++ f) ++ end) ++ ((n ++ g) ++ end)
-    ≡ ((a ++ p) ++ (d ++ ((end ++ t) ++ (e ++ ((end ++ r) ++ (f ++ (end ++ n))))))) ++ g ++ end
-four_lines a p d t e r f n g end = simp append_assoc
-
-pub secure_pieces : (probes tuples : ℕ) → secure_report probes tuples
-    ≡ (line (codes "Secure") ++ line (codes "notion probing order 1 model value") ++ codes "probes ") ++ (decimal probes ++ ((10 ∷ codes "tuples ") ++ (decimal tuples ++ 10 ∷ [])))
-secure_pieces probes tuples = two_lines (line (codes "Secure") ++ line (codes "notion probing order 1 model value")) (codes "probes ") (decimal probes) (codes "tuples ") (decimal tuples)
-
-pub unproved_pieces : (probes tuples rank : ℕ) (name : List ℕ) → unproved_report probes tuples rank name
-    ≡ ((line (codes "Unproved") ++ line (codes "notion probing order 1 model value") ++ codes "probes ") ++ (decimal probes ++ ((10 ∷ codes "tuples ") ++ (decimal tuples ++ ((10 ∷ codes "rank ") ++ (decimal rank ++ (10 ∷ codes "probe "))))))) ++ name ++ 10 ∷ []
-unproved_pieces probes tuples rank name =
-    four_lines (line (codes "Unproved") ++ line (codes "notion probing order 1 model value")) (codes "probes ") (decimal probes) (codes "tuples ") (decimal tuples) (codes "rank ") (decimal rank) (codes "probe ") name (10 ∷ [])
+pub unproved_pieces : (notion : Notion) (model : Model) (probes tuples rank : ℕ) (name : List ℕ) → unproved_report notion model probes tuples rank (name ∷ [])
+    ≡ (((line (codes "Unproved") ++ counts_of notion model probes tuples) ++ (codes "rank " ++ (decimal rank ++ (10 ∷ codes "probe ")))) ++ name) ++ 10 ∷ []
+unproved_pieces notion model probes tuples rank name = pieces (line (codes "Unproved") ++ counts_of notion model probes tuples) (codes "rank ") (decimal rank) (codes "probe ") name (10 ∷ [])

@@ -1,8 +1,8 @@
 pub mod Words
 pub mod Status
 pub mod Report
+pub mod Netlist
+pub mod Verdict
+pub mod Known
 pub mod Answer
 pub mod Run
-pub mod NetlistInstance
-pub mod Building
-pub mod Values

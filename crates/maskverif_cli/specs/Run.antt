@@ -8,7 +8,7 @@ use Rattle.mv_files.specs.Told.{WhereTold}
 use Rattle.mv_files.specs.Sending.{Adds, AddsPart}
 use Rattle.maskverif_cli.specs.declared.status.Status.{Status}
 use Rattle.maskverif_cli.specs.declared.status.Status.TheVariants.{ReadFault, WriteFault, NoMemory}
-use Rattle.maskverif_cli.specs.Answer.{is_answer, Answers, BreaksOff, NamesOne}
+use Rattle.maskverif_cli.specs.Answer.{is_answer, Answers, BreaksOff, Asked}
 
 -- what the files and the sink tell, and their counts of faults
 pub record Outside : Type 0 where
@@ -20,7 +20,7 @@ pub record Outside : Type 0 where
 
 -- the reading of the netlist that the words name failed, and nothing was written
 pub record ReadFails (words : List (String Global)) (old new : Outside) : Type 0 where
-  pub named : NamesOne words
+  pub asked : Asked words
   pub counted : Rose old.read_faults new.read_faults
   pub unwritten : new.written ≡ old.written
 
@@ -52,3 +52,7 @@ abbrev pub Finishes : List ℕ → Status → Option (List ℕ) → Option (List
 Finishes text status old new old_faults new_faults result =
     ((result ≡ status) × WhereTold (Adds text) old new × (new_faults ≡ old_faults))
     ⊎ ((result ≡ WriteFault) × AddsPart text old new × Rose old_faults new_faults)
+
+-- nothing was written, and nothing failed
+abbrev pub Stays : Option (List ℕ) → Option (List ℕ) → ℕ → ℕ → Type 0
+Stays old new old_faults new_faults = (new ≡ old) × (new_faults ≡ old_faults)

@@ -1,8 +1,11 @@
 //! The texts that the program writes.
 
-ghost use Rattle.std.specs.Prelude.{◌≡◌, IfOk};
-ghost use Rattle.maskverif_cli.specs.Report.{secure_report, unproved_report, refused_report, usage_text};
+ghost use Rattle.std.specs.Prelude.{◌≡◌, ◌∷◌, [], IfOk};
+ghost use Rattle.maskverif_cli.specs.Report.{counts_of, secure_report, unproved_report, refused_report, usage_text, limit_words, line_of, refusal_words};
 
+use crate::words::{model_word, notion_word};
+use circuit_types::{Model, Refusal, Which};
+use expr_table::Notion;
 use sequences::NoMemory;
 use std::alloc::Global;
 
@@ -13,8 +16,6 @@ const USAGE: &str =
        maskverif trial SEED SHARES
 ";
 
-const REFUSED: &str = "Refused 30 NotYet\n";
-
 /// How the program is called.
 pub fn usage() -> &'static [u8]
     ensures { result.now ≡ usage_text }
@@ -22,38 +23,154 @@ pub fn usage() -> &'static [u8]
     USAGE.as_bytes()
 }
 
-/// The report on a netlist that is not read yet.
-pub fn refused() -> &'static [u8]
-    ensures { result.now ≡ refused_report }
+/// The number of a limit's refusal, and what is too much.
+fn limit_words(which: Which) -> &'static str
+    ensures { result.now ≡ limit_words which }
 {
-    REFUSED.as_bytes()
+    match which {
+        Which::FileBytes => "14 Limit FileBytes",
+        Which::NetBits => "14 Limit NetBits",
+        Which::Cells => "14 Limit Cells",
+        Which::SignalWidth => "14 Limit SignalWidth",
+        Which::Probes => "14 Limit Probes",
+        Which::Seen => "14 Limit Seen",
+        Which::Tuples => "14 Limit Tuples",
+        Which::Terms => "14 Limit Terms",
+        Which::CertificateBytes => "14 Limit CertificateBytes",
+    }
 }
 
-/// The report where each tuple is proved.
-pub fn secure(alloc: Global, probes: u32, tuples: u64) -> Result<Vec<u8>, NoMemory>
-    ensures { IfOk result (λ text. text.items ≡ secure_report probes tuples) }
+/// The number and the name of a refusal.
+fn refusal_words(refusal: Refusal) -> &'static str
+    ensures { result.now ≡ refusal_words refusal }
 {
+    match refusal {
+        Refusal::BadToken { .. } => "1 BadToken",
+        Refusal::BadForm { .. } => "2 BadForm",
+        Refusal::NoTop => "3 NoTop",
+        Refusal::UnsupportedStatement { .. } => "4 UnsupportedStatement",
+        Refusal::UnsupportedCell { .. } => "5 UnsupportedCell",
+        Refusal::Hierarchy { .. } => "6 Hierarchy",
+        Refusal::NoWire { .. } => "7 NoWire",
+        Refusal::BadSlice { .. } => "8 BadSlice",
+        Refusal::WidthMismatch { .. } => "9 WidthMismatch",
+        Refusal::PortMissing { .. } => "10 PortMissing",
+        Refusal::TwoDrivers { .. } => "11 TwoDrivers",
+        Refusal::Undriven { .. } => "12 Undriven",
+        Refusal::UnknownBit { .. } => "13 UnknownBit",
+        Refusal::Limit(which) => limit_words(which),
+        Refusal::NoteForm { .. } => "15 NoteForm",
+        Refusal::NoteMissing { .. } => "16 NoteMissing",
+        Refusal::ShareGap { .. } => "17 ShareGap",
+        Refusal::ShareDouble { .. } => "18 ShareDouble",
+        Refusal::ClockUse { .. } => "19 ClockUse",
+        Refusal::GateLoop { .. } => "20 GateLoop",
+        Refusal::RegisterLoop { .. } => "21 RegisterLoop",
+        Refusal::ResetNotHeld { .. } => "22 ResetNotHeld",
+        Refusal::EnableNotHeld { .. } => "23 EnableNotHeld",
+    }
+}
+
+/// The line of a refusal, where it has one.
+fn line_of(refusal: Refusal) -> Option<u32>
+    ensures { result ≡ line_of refusal }
+{
+    match refusal {
+        Refusal::NoTop | Refusal::Limit(_) => None,
+        Refusal::BadToken { line }
+        | Refusal::BadForm { line }
+        | Refusal::UnsupportedStatement { line }
+        | Refusal::UnsupportedCell { line }
+        | Refusal::Hierarchy { line }
+        | Refusal::NoWire { line }
+        | Refusal::BadSlice { line }
+        | Refusal::WidthMismatch { line }
+        | Refusal::PortMissing { line }
+        | Refusal::TwoDrivers { line }
+        | Refusal::Undriven { line }
+        | Refusal::UnknownBit { line }
+        | Refusal::NoteForm { line }
+        | Refusal::NoteMissing { line }
+        | Refusal::ShareGap { line }
+        | Refusal::ShareDouble { line }
+        | Refusal::ClockUse { line }
+        | Refusal::GateLoop { line }
+        | Refusal::RegisterLoop { line }
+        | Refusal::ResetNotHeld { line }
+        | Refusal::EnableNotHeld { line } => Some(line),
+    }
+}
+
+/// The report on a netlist that is refused.
+pub fn refused(alloc: Global, refusal: Refusal) -> Result<Vec<u8>, NoMemory>
+    ensures { IfOk result (λ text. text.items ≡ refused_report refusal) }
+{
+    let words = refusal_words(refusal);
+    let text = match line_of(refusal) {
+        Some(line) => format!(in alloc; "Refused {words} line {line}\n")?,
+        None => format!(in alloc; "Refused {words}\n")?,
+    };
+    Ok(text.into_bytes())
+}
+
+/// The lines of a report on a netlist that say what was asked and how much was looked at.
+fn counts(
+    alloc: Global,
+    notion: Notion,
+    model: Model,
+    probes: u32,
+    tuples: u64,
+) -> Result<Vec<u8>, NoMemory>
+    ensures { IfOk result (λ text. text.items ≡ counts_of notion model probes tuples) }
+{
+    let notion = notion_word(notion);
+    let model = model_word(model);
     let text = format!(in alloc;
-        "Secure\nnotion probing order 1 model value\nprobes {probes}\ntuples {tuples}\n"
+        "notion {notion} order 1 model {model}\nprobes {probes}\ntuples {tuples}\n"
     )?;
     Ok(text.into_bytes())
 }
 
-/// The report on the first unproved tuple, of one probe.
-pub fn unproved(
+/// The report where each tuple is provable.
+pub fn secure(
     alloc: Global,
+    notion: Notion,
+    model: Model,
     probes: u32,
     tuples: u64,
-    rank: u64,
-    name: &[u8],
 ) -> Result<Vec<u8>, NoMemory>
-    ensures { IfOk result (λ text. text.items ≡ unproved_report probes tuples rank name.now) }
+    ensures { IfOk result (λ text. text.items ≡ secure_report notion model probes tuples) }
 {
-    let before = format!(in alloc;
-        "Unproved\nnotion probing order 1 model value\nprobes {probes}\ntuples {tuples}\nrank {rank}\nprobe "
-    )?;
-    let mut text = before.into_bytes();
-    text.extend_from_slice(name)?;
+    let mut text = Vec::from_slice(alloc, b"Secure\n")?;
+    text.extend_from_slice(counts(alloc, notion, model, probes, tuples)?.as_slice())?;
+    Ok(text)
+}
+
+/// The first unproved tuple, of one probe: its rank and the probe's name.
+#[derive(Drop)]
+pub struct FirstTuple<'a> {
+    pub rank: u64,
+    pub name: &'a [u8],
+}
+
+/// The report on the first unproved tuple.
+pub fn unproved(
+    alloc: Global,
+    notion: Notion,
+    model: Model,
+    probes: u32,
+    tuples: u64,
+    found: FirstTuple<'_>,
+) -> Result<Vec<u8>, NoMemory>
+    ensures { IfOk result (λ text. text.items
+        ≡ unproved_report notion model probes tuples found.entry.rank (found.entry.name.now ∷ [])) }
+{
+    let mut text = Vec::from_slice(alloc, b"Unproved\n")?;
+    text.extend_from_slice(counts(alloc, notion, model, probes, tuples)?.as_slice())?;
+    let rank = found.rank;
+    let place = format!(in alloc; "rank {rank}\nprobe ")?;
+    text.extend_from_slice(place.as_bytes())?;
+    text.extend_from_slice(found.name)?;
     text.push(b'\n')?;
     Ok(text)
 }

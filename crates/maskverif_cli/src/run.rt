@@ -1,28 +1,46 @@
 //! The command over files and a sink.
 
-ghost use Rattle.std.specs.Prelude.{◌≡◌, ℕ, List, Some, IsTrue};
+ghost use Rattle.std.specs.Prelude.{◌≡◌, ℕ, List, Some, IsTrue, MatchResult};
 ghost use Rattle.mv_files.specs.Counts.{Rose};
 ghost use Rattle.mv_files.specs.Disk.{Disk};
 ghost use Rattle.maskverif_cli.specs.declared.status.Status.{Status};
-ghost use Rattle.maskverif_cli.specs.Answer.{is_answer, is_decided, IsDue, NamesNarrow};
-ghost use Rattle.maskverif_cli.specs.Run.{Outside, Finishes, Runs};
+ghost use Rattle.maskverif_cli.specs.declared.status.Status.TheVariants as status;
+ghost use Rattle.maskverif_cli.specs.Answer.{is_answer, is_decided, IsDue, NamesAccepted};
+ghost use Rattle.maskverif_cli.specs.Run.{Outside, Finishes, Stays, Runs};
 
-use crate::laws::one_answer_is_due;
+use crate::laws::{accepted_is_decided, one_answer_is_due};
 use crate::report;
-use crate::status::{Refusal, Status};
-use crate::verify::{Reply, verify};
-use crate::words::netlist_name;
+use crate::status::Status;
+use crate::verify::{Reply, refused, verify};
+use crate::words::read_words;
+use circuit_types::{Refusal, Which};
 use mv_files::{Files, ReadStop, Sink, read_whole, send_whole};
-use narrow_netlist::MOST_BYTES;
+use rtlil_lex::MOST_BYTES;
+use sequences::NoMemory;
 use std::alloc::Global;
 
 /// Sends the text that is due with a status.
 fn finish<O: Sink>(out: &mut O, text: &[u8], status: Status) -> Status
-    ensures { Finishes text.now status (O.written out.old) (O.written out.new) (O.faults out.old) (O.faults out.new) result }
+    ensures { Finishes text.now status (O.written out.old) (O.written out.new)
+        (O.faults out.old) (O.faults out.new) result }
 {
     match send_whole(out, text) {
         Ok(()) => status,
         Err(_) => Status::WriteFault,
+    }
+}
+
+/// Sends the text of a reply, if there was memory for it.
+fn send<O: Sink>(out: &mut O, reply: Result<Reply, NoMemory>) -> Status
+    ensures { MatchResult reply
+        (λ r. Finishes r.text.items r.status (O.written out.old) (O.written out.new)
+        (O.faults out.old) (O.faults out.new) result)
+        (λ e. (result ≡ status.NoMemory)
+        × Stays (O.written out.old) (O.written out.new) (O.faults out.old) (O.faults out.new)) }
+{
+    match reply {
+        Ok(Reply { status, text }) => finish(out, text.as_slice(), status),
+        Err(_) => Status::NoMemory,
     }
 }
 
@@ -49,25 +67,25 @@ fn run_command<F: Files, O: Sink>(
           sink_faults = O.faults out.new;
         }) result }
 {
-    let Some(name) = netlist_name(words) else {
+    let Some(asked) = read_words(words) else {
         return finish(out, report::usage(), Status::Usage);
     };
-    let bytes = match read_whole(alloc, files, name, MOST_BYTES as u64) {
+    let bytes = match read_whole(alloc, files, asked.netlist, MOST_BYTES as u64) {
         Ok(bytes) => bytes,
         Err(ReadStop::Missing) => return Status::NoFile,
         Err(ReadStop::ReadFault) => return Status::ReadFault,
         Err(ReadStop::NoMemory) => return Status::NoMemory,
         Err(ReadStop::TooLong) => {
-            return finish(out, report::refused(), Status::Refused(Refusal::NotYet));
+            return send(out, refused(alloc, Refusal::Limit(Which::FileBytes)));
         }
     };
-    match verify(alloc, bytes.as_slice()) {
-        Ok(Reply { status, text }) => finish(out, text.as_slice(), status),
-        Err(_) => Status::NoMemory,
-    }
+    send(
+        out,
+        verify(alloc, asked.notion, asked.model, bytes.as_slice()),
+    )
 }
 
-/// Runs the command that the words are, `verify probing 1 value NETLIST`, over these files, and writes its
+/// Runs the command that the words are, `verify NOTION 1 MODEL NETLIST`, over these files, and writes its
 /// report to the sink. It waits for nobody and always returns.
 pub fn run_plain<F: Files, O: Sink>(
     alloc: Global,
@@ -96,10 +114,12 @@ pub fn run_plain<F: Files, O: Sink>(
     ensures only { (disk : Disk) (due : Status) (text : List ℕ) → F.disk files.old ≡ Some disk → IsTrue (is_answer result)
         → IsDue words.now (Some disk) due text → result ≡ due }
 
-    // A narrow netlist is decided, unless a call failed or memory was refused.
-    ensures complete { NamesNarrow words.now (F.disk files.old) → ¬ Rose (F.read_faults files.old) (F.read_faults files.new)
+    // An accepted netlist is decided, unless a call failed or memory was refused.
+    ensures complete { NamesAccepted words.now (F.disk files.old)
+        → ¬ Rose (F.read_faults files.old) (F.read_faults files.new)
         → ¬ Rose (O.faults out.old) (O.faults out.new) → IsTrue (is_decided result) }
 {
     one_answer_is_due();
+    accepted_is_decided();
     run_command(alloc, words, files, out)
 }

@@ -3,16 +3,10 @@
 ghost use Rattle.std.specs.Prelude.{◌≡◌};
 
 use arrayvec::ArrayVec;
+use circuit_types::Refusal;
 
 /// Numbers of probes, ascending and without repeats.
 pub type Tuple = ArrayVec<u32, 8>;
-
-/// Why a netlist is refused.
-#[derive(Clone, Copy, Debug, PartialEq, Eq)]
-pub enum Refusal {
-    /// The text is not a narrow netlist, and no others are read yet.
-    NotYet,
-}
 
 /// How a command ended.
 #[derive(Debug, Drop)]

@@ -1,18 +1,22 @@
 //! The answer to a netlist's bytes, with its report.
 
-ghost use Rattle.std.specs.Prelude.{◌≡◌, ◌∷◌, [], ℕ, List, IfOk, length};
-ghost use Rattle.expr_table.specs.Instance.{IsFitting};
-ghost use Rattle.narrow_netlist.specs.declared.netlist.Netlist.{Netlist};
-ghost use Rattle.maskverif_cli.specs.Answer.{IsVerdict, Means, printed};
-ghost use Rattle.maskverif_cli.specs.Building.{AreProbedWires};
+ghost use Rattle.std.specs.Prelude.{◌≡◌, ◌≤◌, ◌∷◌, [], ℕ, List, IfOk, length};
+ghost use Rattle.rtlil_lex.specs.Tokens.{most_bytes};
+ghost use Rattle.net_build.specs.Names.{printed_name};
+ghost use Rattle.maskverif_cli.specs.declared.status.Status.TheVariants as status;
+ghost use Rattle.maskverif_cli.specs.Answer.{IsVerdict};
+ghost use Rattle.maskverif_cli.specs.Known.{HasBitsWithin, IsKept, Keeps};
+ghost use Rattle.maskverif_cli.specs.Report.{refused_report};
 
-use crate::decide::first_unproved;
-use crate::named_instance::{NamedInstance, instance_of};
+use crate::decide::first_not_provable;
+use crate::netlist::{Accepted, accept};
 use crate::report;
-use crate::status::{Refusal, Status, Tuple};
-use narrow_netlist::read;
+use crate::status::{Status, Tuple};
+use circuit_types::{Model, Nets, Refusal, Stop};
+use expr_table::Notion;
+use net_build::name_of;
 use sequences::NoMemory;
-use std::alloc::Global;
+use std::alloc::{AllocError, Global};
 
 /// A status, and the report that is due with it.
 #[derive(Drop)]
@@ -21,14 +25,27 @@ pub struct Reply {
     pub text: Vec<u8>,
 }
 
-/// An identifier without a leading backslash.
-fn printed(name: &[u8]) -> &[u8]
-    ensures { result.now ≡ printed name.now }
+/// The answer to a netlist that is refused.
+pub fn refused(alloc: Global, refusal: Refusal) -> Result<Reply, NoMemory>
+    ensures status { IfOk result (λ reply. reply.status ≡ status.Refused refusal) }
+    ensures text { IfOk result (λ reply. reply.text.items ≡ refused_report refusal) }
 {
-    match name {
-        [b'\\', rest @ ..] => rest,
-        _ => name,
+    let text = report::refused(alloc, refusal)?;
+    Ok(Reply {
+        status: Status::Refused(refusal),
+        text,
+    })
+}
+
+/// The printed name of a bit; a bit that the netlist lacks has none.
+fn printed_name(alloc: Global, nets: &Nets, bit: u32) -> Result<Vec<u8>, NoMemory>
+    requires { HasBitsWithin nets.now }
+    ensures { IfOk result (λ name. name.items ≡ printed_name nets.now.wires bit) }
+{
+    if bit as usize >= nets.sources.as_slice().len() {
+        return Ok(Vec::new(alloc));
     }
+    name_of(alloc, nets, bit)
 }
 
 /// The tuple of one probe.
@@ -40,40 +57,49 @@ fn single(probe: u32) -> Tuple
     tuple
 }
 
-/// What is answered to the netlist whose instance this is.
-fn verdict(alloc: Global, named: &NamedInstance) -> Result<Reply, NoMemory>
-    requires fitting { IsFitting named.now.instance }
-    requires wires { length named.now.wires.items ≡ length named.now.instance.probes }
-    ensures { IfOk result (λ reply. (bytes : List ℕ) (netlist : Netlist) → Means bytes netlist named.now.instance
-        → AreProbedWires named.now.wires.items netlist → IsVerdict bytes reply.status reply.text.items) }
+/// What is answered to a netlist that is accepted.
+fn verdict(
+    alloc: Global,
+    notion: Notion,
+    model: Model,
+    netlist: &Accepted,
+) -> Result<Reply, NoMemory>
+    requires { IsKept netlist.now }
+    ensures { IfOk result (λ reply. (bytes : List ℕ) → Keeps notion model bytes netlist.now
+        → IsVerdict notion model bytes reply.status reply.text.items) }
 {
-    let probes = named.instance.probes.as_slice().len() as u32;
-    let Some(probe) = first_unproved(alloc, &named.instance)? else {
+    let probes = netlist.probes.list.as_slice();
+    let count = probes.len() as u32;
+    let tuples = u64::from(count);
+    let Some(probe) = first_not_provable(alloc, &netlist.instance)? else {
         return Ok(Reply {
             status: Status::Secure,
-            text: report::secure(alloc, probes, u64::from(probes))?,
+            text: report::secure(alloc, notion, model, count, tuples)?,
         });
     };
-    let wire = &named.wires[probe as usize];
-    let name = printed(wire.name.as_slice());
-    let text = report::unproved(alloc, probes, u64::from(probes), u64::from(probe), name)?;
+    let name = printed_name(
+        alloc,
+        &netlist.circuit.nets,
+        probes[probe as usize].name_bit,
+    )?;
+    let found = report::FirstTuple {
+        rank: u64::from(probe),
+        name: name.as_slice(),
+    };
     Ok(Reply {
         status: Status::Unproved(single(probe)),
-        text,
+        text: report::unproved(alloc, notion, model, count, tuples, found)?,
     })
 }
 
 /// What is answered to the bytes of a netlist.
-pub fn verify(alloc: Global, bytes: &[u8]) -> Result<Reply, NoMemory>
-    ensures { IfOk result (λ reply. IsVerdict bytes.now reply.status reply.text.items) }
+pub fn verify(alloc: Global, notion: Notion, model: Model, bytes: &[u8]) -> Result<Reply, NoMemory>
+    requires { length bytes.now ≤ most_bytes }
+    ensures { IfOk result (λ reply. IsVerdict notion model bytes.now reply.status reply.text.items) }
 {
-    let Some(netlist) = read(alloc, bytes)? else {
-        let text = Vec::from_slice(alloc, report::refused())?;
-        return Ok(Reply {
-            status: Status::Refused(Refusal::NotYet),
-            text,
-        });
-    };
-    let named = instance_of(alloc, &netlist)?;
-    verdict(alloc, &named)
+    match accept(alloc, bytes, notion, model) {
+        Ok(netlist) => verdict(alloc, notion, model, &netlist),
+        Err(Stop::Refused(refusal)) => refused(alloc, refusal),
+        Err(Stop::NoMemory) => Err(AllocError),
+    }
 }

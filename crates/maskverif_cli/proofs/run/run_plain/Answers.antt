@@ -4,7 +4,6 @@ use Rattle.mv_files.specs.Disk.{Disk}
 use Rattle.maskverif_cli.specs.declared.status.Status.{Status}
 use Rattle.maskverif_cli.specs.declared.status.Status.TheVariants.{Secure, Unproved, Usage, Refused, NoFile, ReadFault, WriteFault, NoMemory}
 use Rattle.maskverif_cli.specs.Answer.{IsDue, is_answer, is_decided}
-use Rattle.maskverif_cli.proofs.Due.{decided}
 use Rattle.maskverif_cli.proofs.run.run_plain.Goals as goal
 
 pub returns-clause-only : goal.returns-clause-only
@@ -28,6 +27,7 @@ pub returns-clause-complete : goal.returns-clause-complete
 returns-clause-complete g c named no_read_fault no_write_fault =
     let ensures = c.run_command.ensures in
     by_status c.run_command.result
-    (λ answered. let answer = ensures.answer answered in decided c.args.words.now (g.F.Files.disk c.args.files.now) c.run_command.result answer.text named answer.due)
+    (λ answered. let answer = ensures.answer answered in
+    c.accepted_is_decided.ensures c.args.words.now (g.F.Files.disk c.args.files.now) c.run_command.result answer.text named answer.due)
     (λ fault. no_read_fault (ensures.read_fault fault).counted)
     (λ fault. no_write_fault (ensures.write_fault fault).counted)

@@ -1,48 +1,25 @@
-use Rattle.std.proofs.Common.{◌≡◌, ◌<◌, ◌+◌, ◌∷◌, [], List, ℕ, length, Some, sym, ap, ◌∙◌, subst, arith}
-use Rattle.std.specs.Option.{option_map, IfSome}
-use Rattle.std.specs.List.{slice_get}
-use Rattle.std.proofs.lemmas.List.FromFn.{length-map-range_with_len}
-use Rattle.maskverif_cli.specs.declared.probed_wires.WireRow.{WireRow}
-use Rattle.maskverif_cli.specs.Answer.{printed}
-use Rattle.maskverif_cli.specs.Report.{secure_report, unproved_report}
-use Rattle.maskverif_cli.proofs.Singles.{single-at, map-at}
+use Rattle.std.proofs.Common.{◌<◌, length, get_or, List, sym, ap, ◌∙◌, subst}
+use Rattle.circuit_types.specs.declared.probes.Probe.{Probe}
+use Rattle.net_build.specs.Names.{printed_name}
+use Rattle.maskverif_cli.specs.Verdict.{IsFirst}
+use Rattle.maskverif_cli.proofs.Deciding.{probe-is, secure-is, unproved-is}
 use Rattle.maskverif_cli.proofs.verify.verdict.Goals as goal
 
 pub returns-in_default : goal.returns-in_default
-returns-in_default c bytes netlist means names =
-    let x = c.args.named.now.instance in
-    let probes = ap length c.as_slice.ensures in
-    let tuples = c.from.ensures ∙ probes ∙ sym (length-map-range_with_len (λ p. p ∷ []) 0 (length x.probes)) in
-    record {
-      netlist = netlist;
-      instance = x;
-      means = means;
-      all_proved = sym c.in_ok-probe.ensures.first ∙ ap (option_map (λ p. p ∷ [])) c.in_default.is;
-      report = c.in_ok-secure.ensures ∙ (λ i. secure_report (probes i) (tuples i));
-    }
+returns-in_default c bytes keeps =
+    let kept = c.args.netlist.now in
+    let first = subst (IsFirst kept.instance) c.in_default.is c.in_ok-probe.ensures in
+    secure-is c.args.notion c.args.model bytes kept keeps (length c.as_slice-probes.result.now) c.from-tuples.result c.in_ok-secure.field-0.items
+    first (ap length c.as_slice-probes.ensures ∙ sym c.requires.one_each) c.from-tuples.ensures c.in_ok-secure.ensures
 
 pub returns : goal.returns
-returns c bytes netlist means names =
-    let x = c.args.named.now.instance in
-    let rows = c.args.named.now.wires.items in
+returns c bytes keeps =
+    let kept = c.args.netlist.now in
     let probe = c.in-Some.probe in
-    let wire = c.index-wire.result.now in
-    let probes = ap length c.as_slice.ensures in
-    let tuples = c.from-2.ensures ∙ probes ∙ sym (length-map-range_with_len (λ p. p ∷ []) 0 (length x.probes)) in
-    let within = subst (λ o. IfSome o (λ p. p < length x.probes)) c.in-Some.is c.in_ok-probe.ensures.within in
-    let single = ap (λ (t : List ℕ). Some t) (sym c.single.ensures) in
-    let here : 0 + probe ≡ probe = omega arith in
-    let name = c.printed-name.ensures ∙ ap printed c.as_slice-2.ensures in
-    record {
-      netlist = netlist;
-      instance = x;
-      means = means;
-      first = sym c.in_ok-probe.ensures.first ∙ ap (option_map (λ p. p ∷ [])) c.in-Some.is ∙ single;
-      rank = probe;
-      ranked = single-at 0 (length x.probes) probe within ∙ ap (λ k. Some (k ∷ [])) here ∙ single;
-      probe = probe;
-      single = c.single.ensures;
-      name = wire.name;
-      named = ap (λ (l : List (List ℕ)). slice_get l probe) (sym names) ∙ map-at (λ (row : WireRow). row.name) rows probe wire (subst (λ n. probe < n) (sym c.requires.wires) within) c.index-wire.ensures;
-      report = c.in_ok-text.ensures ∙ (λ i. unproved_report (probes i) (tuples i) (c.from-3.ensures i) (name i));
-    }
+    let here = c.index-probes-probe.result in
+    let first = subst (IsFirst kept.instance) c.in-Some.is c.in_ok-probe.ensures in
+    let within = subst (λ n. probe < n) c.requires.one_each first.0 in
+    let is = probe-is kept.probes.list probe here within (c.index-probes-probe.is ∙ ap (λ (l : List Probe). get_or l probe here) c.as_slice-probes.ensures) in
+    let named = c.as_slice.ensures.value ∙ c.in_ok-name.ensures ∙ ap (λ (p : Probe). printed_name kept.circuit.nets.wires p.name_bit) (sym c.index-probes-probe.is ∙ is) in
+    unproved-is c.args.notion c.args.model bytes kept keeps probe (length c.as_slice-probes.result.now) c.from-tuples.result c.from.result c.single.result.items c.as_slice.result.now
+    c.in_ok-unproved.field-0.items first (ap length c.as_slice-probes.ensures ∙ sym c.requires.one_each) c.from-tuples.ensures c.from.ensures c.single.ensures named c.in_ok-unproved.ensures

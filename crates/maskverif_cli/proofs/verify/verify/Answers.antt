@@ -1,17 +1,15 @@
-use Rattle.std.proofs.Common.{subst, ◌∙◌}
-use Rattle.std.specs.Option.{IfSome, IfNone}
-use Rattle.narrow_netlist.specs.declared.netlist.Netlist.{Netlist}
-use Rattle.narrow_netlist.specs.Narrow.{IsNarrow}
-use Rattle.maskverif_cli.proofs.Sizes.{few-wires}
+use Rattle.std.proofs.Common.{subst}
+use Rattle.circuit_types.specs.Causes.{IsRefusal}
+use Rattle.maskverif_cli.specs.Netlist.{HasRefusal}
+use Rattle.maskverif_cli.proofs.Ending.{kept-reply, refused-reply}
 use Rattle.maskverif_cli.proofs.verify.verify.Goals as goal
 
-pub instance_of-requires : goal.instance_of-requires
-instance_of-requires c =
-    let narrow : IsNarrow c.args.bytes.now c.in-Some.netlist = subst (λ o. IfSome o (λ n. IsNarrow c.args.bytes.now n)) c.in-Some.is c.in_ok-netlist.ensures.narrow in
-    record { few = few-wires c.args.bytes.now c.in-Some.netlist narrow }
+pub returns-in-Ok : goal.returns-in-Ok
+returns-in-Ok c = kept-reply c.args.notion c.args.model c.args.bytes.now c.in-Ok.netlist c.verdict.result c.in-Ok.ensures.accepted c.verdict.ensures
 
-pub returns-in_default : goal.returns-in_default
-returns-in_default c = record {
-  not_narrow = subst (λ o. IfNone o ((n : Netlist) → IsNarrow c.args.bytes.now n → ⊥)) c.in_default.is c.in_ok-netlist.ensures.other;
-  report = c.in_ok-text.ensures.items ∙ c.refused.ensures;
-}
+pub returns-in-Err-Refused : goal.returns-in-Err-Refused
+returns-in-Err-Refused c =
+    let due = subst (IsRefusal (HasRefusal c.args.notion c.args.model c.args.bytes.now)) c.in-Err-Refused.field-0-is c.in-Err-Refused.ensures.refused in
+    let status = rw c.in-Err-Refused.field-0-is at c.refused.ensures.status in
+    let text = rw c.in-Err-Refused.field-0-is at c.refused.ensures.text in
+    refused-reply c.args.notion c.args.model c.args.bytes.now c.in-Err-Refused.refusal c.refused.result due status text

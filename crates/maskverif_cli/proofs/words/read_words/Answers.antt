@@ -1,0 +1,35 @@
+use Rattle.std.proofs.Common.{rules, ◌≡◌, [], ◌∷◌, codes, sym, ap, ◌∙◌, subst}
+use Rattle.std.specs.Prelude.{string_bytes}
+use Rattle.maskverif_cli.specs.Words.{IsFileName, IsOne, texts}
+use Rattle.maskverif_cli.proofs.Taken.{five, asked-words, if-none}
+use Rattle.maskverif_cli.proofs.words.read_words.Goals as goal
+
+pub returns-in_err-notion-clause-other : goal.returns-in_err-notion-clause-other
+returns-in_err-notion-clause-other c =
+    let words = five c.args.words.now c.command-item.result c.notion-item.result c.order-item.result c.model-item.result c.netlist-item.result
+    c.in-len5.len_at_least c.in-len5.len_below c.command-item.is c.notion-item.is c.order-item.is c.model-item.is c.netlist-item.is in
+    if-none c.from_residual.result _
+    (λ notion model name taken. c.in_err-notion.ensures.other notion (c.as_str-4.ensures.value ∙ (asked-words c.args.words.now _ _ _ _ _ words notion model name taken).notion_is))
+
+pub returns-in_err-model-clause-other : goal.returns-in_err-model-clause-other
+returns-in_err-model-clause-other c =
+    let words = five c.args.words.now c.command-item.result c.notion-item.result c.order-item.result c.model-item.result c.netlist-item.result
+    c.in-len5.len_at_least c.in-len5.len_below c.command-item.is c.notion-item.is c.order-item.is c.model-item.is c.netlist-item.is in
+    if-none c.from_residual-in_err-model.result _
+    (λ notion model name taken. c.in_err-model.ensures.other model (c.as_str-5.ensures.value ∙ (asked-words c.args.words.now _ _ _ _ _ words notion model name taken).model_is))
+
+pub returns-clause-taken : goal.returns-clause-taken
+returns-clause-taken c =
+    let words = five c.args.words.now c.command-item.result c.notion-item.result c.order-item.result c.model-item.result c.netlist-item.result
+    c.in-len5.len_at_least c.in-len5.len_below c.command-item.is c.notion-item.is c.order-item.is c.model-item.is c.netlist-item.is in
+    let verify : c.as_str.result.now ≡ codes "verify" = search rules in
+    let command = sym c.as_str.ensures.value ∙ verify in
+    let notion = sym c.as_str-4.ensures.value ∙ c.in_ok-notion.ensures.named in
+    let model = sym c.as_str-5.ensures.value ∙ c.in_ok-model.ensures.named in
+    let name = c.as_str-3.ensures.value ∙ sym c.as_str-6.ensures.value in
+    record {
+      order = string_bytes c.order-item.result;
+      words_are = ap texts words ∙ (λ i. command i ∷ notion i ∷ string_bytes c.order-item.result ∷ model i ∷ (sym c.as_str-6.ensures.value) i ∷ []);
+      order_is = subst IsOne c.as_str-2.ensures.value (c.is_one.ensures.0 c.if-not-is_one.false);
+      name_is = subst IsFileName name (c.is_file_name.ensures.0 c.if-not-is_file_name.false);
+    }

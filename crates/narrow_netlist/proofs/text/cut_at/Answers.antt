@@ -1,9 +1,0 @@
-use Rattle.std.proofs.Common.{arith}
-use Rattle.narrow_netlist.proofs.Pieces.{cut_at-slices, cut_at-none}
-use Rattle.narrow_netlist.proofs.text.cut_at.Goals as goal
-
-pub returns-then-found-byte : goal.returns-then-found-byte
-returns-then-found-byte c = cut_at-slices c.args.byte c.args.text.now c.loop-place.place (omega arith) c.loop-place.invariant c.if-found-byte.true
-
-pub returns : goal.returns
-returns c = cut_at-none c.args.byte c.args.text.now (λ k less. c.loop-place.invariant k (omega arith))
