@@ -141,6 +141,9 @@ end
 
 const SECURE: &str = "Secure\nnotion probing order 1 model value\nprobes 5\ntuples 5\n";
 
+const UNPROVED: &str =
+    "Unproved\nnotion probing order 1 model value\nprobes 5\ntuples 5\nrank 4\nprobe y1\n";
+
 const USAGE: &str =
     "usage: maskverif verify NOTION ORDER MODEL NETLIST [--workers N] [--certificate OUT] [--schedule SEED]
        maskverif check NOTION ORDER MODEL NETLIST CERTIFICATE
@@ -237,6 +240,8 @@ fn decides_a_refresh(rt: HostRuntime) -> Result<(), Fail> {
     let alloc = rt.alloc();
     let plain = edited(alloc, REFRESH, [].as_slice())?;
     expect(&rt, alloc, ["probing", "value"], plain, 0, SECURE)?;
+    let leaky = edited(alloc, REFRESH, [(23, "    connect \\B \\x0\n")].as_slice())?;
+    expect(&rt, alloc, ["probing", "value"], leaky, 1, UNPROVED)?;
     let unread = edited(
         alloc,
         REFRESH,
