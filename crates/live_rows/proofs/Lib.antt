@@ -1,0 +1,17 @@
+pub mod Counts
+pub mod Numbers
+pub mod Marks
+pub mod Counted
+pub mod Dropping
+pub mod Freeing
+pub mod Leaving
+pub mod Cutting
+pub mod OnlyParent
+pub mod Spread
+pub mod Rooted
+pub mod Offered
+pub mod Begun
+pub mod Cleared
+pub mod Tally
+pub mod Fewer
+pub mod Facts
