@@ -1,20 +1,27 @@
 -- Roots are marked row by row and probe by probe.
-use Rattle.std.proofs.Common.{◌≡◌, ℕ, suc, ◌+◌, ◌<◌, ◌==◌, Bool, true, false, ◌||◌, List, [], ◌∷◌, ◌++◌, length, get_or, set, take, All, refl, sym, ap, ◌∙◌, subst, arith}
+use Rattle.std.proofs.Common.{◌≡◌, ℕ, zero, suc, Some, None, ◌+◌, ◌<◌, ◌==◌, Bool, true, false, ◌||◌, List, [], ◌∷◌, ◌++◌, length, get_or, set, take, All, refl, sym, ap, ◌∙◌, subst, arith}
 use Rattle.std.proofs.lemmas.Bool.{cond-true, cond-false, or_right, eq-eqb, ne_eqb}
 use Rattle.std.proofs.lemmas.List.{append-nil, append_assoc, map-append, take_more, get_or_read, get_or-map, length-map}
 use Rattle.expr_table.specs.declared.instance.ProbeRoots.{ProbeRoots}
 use Rattle.expr_table.specs.declared.node.Row.{Row}
 use Rattle.expr_table.specs.Instance.{rows_of}
 use Rattle.expr_table.specs.Table.{has, numbers}
+use Rattle.std.specs.Option.{MatchOption}
 use Rattle.bit_rows.specs.Sets.{is_in, members_below}
+use Rattle.bit_rows.proofs.Facts.{IsLeastFrom, NoneFrom, first_member-from, first_member-is, next_member-is, members_below-none}
 use Rattle.once_random.specs.Tuples.{probe_at}
 use Rattle.once_random.proofs.Facts.{has-++}
 use Rattle.live_rows.specs.declared.mark.Mark.{Mark}
-use Rattle.live_rows.specs.Leaves.{roots_over}
+use Rattle.live_rows.specs.Leaves.{member_from, roots_over}
 use Rattle.live_rows.specs.Marks.{mark_at}
 use Rattle.live_rows.specs.Spread.{as_root, rooted}
 use Rattle.live_rows.proofs.Marks.{each_mark}
 use Rattle.live_rows.proofs.Numbers.{has_push, or-false}
+
+-- the mark of a root that is known is as it was
+pub root_known : (m : Mark) → m.root ≡ true → m.live ≡ true → m.touched ≡ true → m ≡ as_root m
+root_known m r l t =
+    ap (λ a. record m { root = a }) r ∙ ap (λ b. record m { root = true; live = b }) l ∙ ap (λ d. record m { root = true; live = true; touched = d }) t
 
 root_again : (b : Bool) (m : Mark) → as_root (rooted b m) ≡ as_root m
 root_again true m = refl
@@ -85,3 +92,19 @@ module _ (probes : List ProbeRoots) (chosen : List Bool) (start marks : List Mar
       let same : members_below chosen next ≡ members_below chosen p =
       ap (members_below chosen) is ∙ ap (λ ms. members_below chosen p ++ ms) (cond-false (is_in chosen p) (p ∷ []) [] absent) ∙ append-nil (members_below chosen p) in
       before r ∙ ap (λ ms. rooted (has (roots_over probes ms) r) (mark_at start r)) (sym same)
+
+-- ---- the least member from a start on
+
+member_is : (xs : List Bool) (start : ℕ) → MatchOption (member_from xs start) (NoneFrom xs start) (IsLeastFrom xs start)
+member_is xs zero = subst (λ found. MatchOption found (NoneFrom xs 0) (IsLeastFrom xs 0)) (sym (first_member-from xs)) (first_member-is xs)
+member_is xs (suc k) = next_member-is xs k
+
+pub member_some : (xs : List Bool) (start p : ℕ) → Some p ≡ member_from xs start → IsLeastFrom xs start p
+member_some xs start p is = subst (λ found. MatchOption found (NoneFrom xs start) (IsLeastFrom xs start)) (sym is) (member_is xs start)
+
+pub member_none : (xs : List Bool) (start : ℕ) → None ≡ member_from xs start → NoneFrom xs start
+member_none xs start is = subst (λ found. MatchOption found (NoneFrom xs start) (IsLeastFrom xs start)) (sym is) (member_is xs start)
+
+-- the members before the least from a start on are those before the start
+pub below_least : (xs : List Bool) (start p : ℕ) → IsLeastFrom xs start p → members_below xs p ≡ members_below xs start
+below_least xs start p least = members_below-none xs start p least.from least.before

@@ -1,5 +1,6 @@
 -- The roots of probes, and the live input leaves of groups.
-use Rattle.std.specs.Prelude.{ℕ, Bool, false, ◌&&◌, nat_le, List, [], ◌∷◌, ◌++◌, length, Option}
+use Rattle.std.specs.Prelude.{ℕ, Bool, false, ◌&&◌, nat_le, List, [], ◌∷◌, ◌++◌, length, find, Option}
+use Rattle.bit_rows.specs.Sets.{members}
 use Rattle.expr_table.specs.declared.instance.ProbeRoots.{ProbeRoots}
 use Rattle.expr_table.specs.declared.node.Node.{Node}
 use Rattle.expr_table.specs.declared.node.Node.TheVariants as node
@@ -9,6 +10,10 @@ use Rattle.once_random.specs.Groups.{is_in_group}
 use Rattle.once_random.specs.Live.{is_live}
 use Rattle.once_random.specs.Numbers.{all_below, count_below}
 use Rattle.once_random.specs.Tuples.{probe_at}
+
+-- the least number of the set that is at least start, if there is one
+abbrev pub member_from : List Bool → ℕ → Option ℕ
+member_from set start = find (λ i. nat_le start i) (members set)
 
 -- the rows that the probes of the tuple see
 abbrev pub roots_over : List ProbeRoots → List ℕ → List ℕ

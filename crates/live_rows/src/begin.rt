@@ -4,7 +4,7 @@ ghost use Rattle.expr_table.specs.declared.node.Row.{Row};
 ghost use Rattle.expr_table.specs.Instance.{rows_of};
 ghost use Rattle.expr_table.specs.Table.{has, numbers, sides};
 ghost use Rattle.bit_rows.specs.Sets.{members};
-ghost use Rattle.live_rows.specs.Leaves.{roots_over};
+ghost use Rattle.live_rows.specs.Leaves.{member_from, roots_over};
 ghost use Rattle.live_rows.specs.Lists.{with_number};
 ghost use Rattle.live_rows.specs.Marks.{mark_at, queued_count};
 ghost use Rattle.live_rows.specs.Shown.{AreLower, Shows, live_count, serves};
@@ -30,6 +30,11 @@ fn mark_root(marks: &mut [Mark], found: &mut NumberList, row: Row)
     ensures found { IsFound marks.new found.new.numbers }
     ensures room { found.new.room ≡ found.old.room }
 {
+    let known = marks[row.0 as usize];
+    if known.root & known.live & known.touched {
+        // the row was marked for another probe
+        return;
+    }
     touch(marks, found, row);
     let mut mark = marks[row.0 as usize];
     mark.root = true;
@@ -51,6 +56,16 @@ fn mark_probe(marks: &mut [Mark], found: &mut NumberList, rows: &[Row])
     }
 }
 
+/// The least member that is at least `start`.
+fn member_from(set: &BitRow, start: u32) -> Option<u32>
+    ensures { result ≡ member_from set.now start }
+{
+    if start == 0 {
+        return set.first();
+    }
+    set.next(start - 1)
+}
+
 /// Marks the rows that the chosen probes see.
 fn mark_roots(marks: &mut [Mark], found: &mut NumberList, probes: &[ProbeRoots], chosen: &BitRow)
     requires one_flag_each { length chosen.now ≡ length probes.now }
@@ -62,10 +77,12 @@ fn mark_roots(marks: &mut [Mark], found: &mut NumberList, probes: &[ProbeRoots],
     ensures found { IsFound marks.new found.new.numbers }
     ensures room { found.new.room ≡ found.old.room }
 {
-    for probe in 0..chosen.len() {
-        if chosen.get(probe) {
-            mark_probe(marks, found, probes[probe as usize].rows.as_slice());
-        }
+    // so its members are numbers of 32 bits
+    let _length = chosen.len();
+    let mut start = 0;
+    while let Some(probe) = member_from(chosen, start) {
+        mark_probe(marks, found, probes[probe as usize].rows.as_slice());
+        start = probe + 1;
     }
 }
 

@@ -1,0 +1,4 @@
+pub mod RunSets
+pub mod Greedy
+pub mod Growing
+pub mod Hulls

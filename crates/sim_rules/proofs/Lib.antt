@@ -1,0 +1,4 @@
+pub mod Decides
+pub mod Tables
+pub mod Waiting
+pub mod Turns

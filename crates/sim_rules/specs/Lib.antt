@@ -1,0 +1,3 @@
+pub mod Provable
+pub mod Fitting
+pub mod Cutting
