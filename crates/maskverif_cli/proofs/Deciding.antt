@@ -1,74 +1,83 @@
--- Verdicts, from the first probe that is not provable.
-use Rattle.std.proofs.Common.{◌≡◌, ℕ, ◌+◌, ◌<◌, List, [], ◌∷◌, length, map, get_or, Some, None, sym, ap, ◌∙◌, subst, arith}
-use Rattle.std.proofs.lemmas.List.{get_or_default}
-use Rattle.std.proofs.lemmas.List.FromFn.{length-map-range_with_len}
+-- Verdicts, from what a search of all tuples finds.
+use Rattle.std.proofs.Common.{◌≡◌, ℕ, ◌<◌, true, false, not, List, length, map, Some, None, sym, ap, ◌∙◌, subst}
+use Rattle.std.specs.Prelude.{IsTrue, ◌↔◌}
+use Rattle.std.proofs.lemmas.Bool.{not-false, not-true}
 use Rattle.circuit_types.specs.declared.probes.Model.{Model}
-use Rattle.circuit_types.specs.declared.probes.Probe.{Probe}
 use Rattle.circuit_types.specs.declared.nets.Nets.{Nets}
 use Rattle.circuit_types.specs.Probes.{probe_at}
 use Rattle.expr_table.specs.declared.instance.Instance.{Instance}
 use Rattle.expr_table.specs.declared.instance.Notion.{Notion}
 use Rattle.net_build.specs.Names.{printed_name}
-use Rattle.once_random.specs.Tuples.{tuples_of_one}
-use Rattle.maskverif_cli.specs.declared.netlist.Accepted.{Accepted}
-use Rattle.maskverif_cli.specs.Known.{Keeps}
-use Rattle.maskverif_cli.specs.Netlist.{probe_name}
+use Rattle.once_random.specs.Tuples.{is_proved}
+use Rattle.tuple_rank.specs.Tuples.{IsTuple, TuplesAreAll}
+use Rattle.tuple_rank.proofs.Order.{contains_at, rank-at}
+use Rattle.frontier_core.specs.Tree.{first_of, tree_of}
+use Rattle.accepted_netlist.specs.declared.netlist.Accepted.{Accepted}
+use Rattle.accepted_netlist.specs.Known.{Keeps}
+use Rattle.accepted_netlist.specs.Netlist.{probe_name}
+use Rattle.maskverif_cli.specs.Kept.{name_of_probe}
 use Rattle.maskverif_cli.specs.Report.{secure_report, unproved_report}
-use Rattle.maskverif_cli.specs.Verdict.{IsFirst, IsProvableTuple, IsSecure, IsUnproved, HasRank}
-use Rattle.maskverif_cli.proofs.Singles.{single-at, ranked}
+use Rattle.maskverif_cli.specs.Verdict.{IsProvableTuple, IsSecure, IsUnproved, HasRank, tuples_of}
+use Rattle.maskverif_cli.proofs.Finding.{IsFound, found, none-passes}
 
--- how many tuples of one probe there are
-count-tuples : (x : Instance) → length (tuples_of_one x) ≡ length x.probes
-count-tuples x = length-map-range_with_len (λ p. p ∷ []) 0 (length x.probes)
+-- a tuple is proved exactly where it is provable
+abbrev pub Decides : Instance → Type 0
+Decides x = (tuple : List ℕ) → IsTrue (is_proved x tuple) ↔ IsProvableTuple x tuple
 
--- a probe by its number
-pub probe-is : (ps : List Probe) (k : ℕ) (p : Probe) → k < length ps → p ≡ get_or ps k p → p ≡ probe_at ps k
-probe-is ps k p lt is = is ∙ get_or_default ps k p _ lt
+module _ (x : Instance) (order : ℕ) (decides : Decides x) where
+  from-proved : (tuple : List ℕ) → not (is_proved x tuple) ≡ false → IsProvableTuple x tuple
+  from-proved tuple passed = (decides tuple).0 (not-false (is_proved x tuple) passed)
 
-module _ (notion : Notion) (model : Model) (bytes : List ℕ) (kept : Accepted) (keeps : Keeps notion model bytes kept) where
+  pub all-provable : first_of x order ≡ None → (tuple : List ℕ) (rank : ℕ) → HasRank x order tuple rank → IsProvableTuple x tuple
+  all-provable none tuple rank has = from-proved tuple (none-passes (λ t. not (is_proved x t)) (tuples_of x order) none rank tuple has)
+
+  module _ (tuple : List ℕ) (first : first_of x order ≡ Some tuple) where
+    abbrev here : IsFound (λ t. not (is_proved x t)) (tuples_of x order) tuple
+    here = found (λ t. not (is_proved x t)) (tuples_of x order) tuple first
+
+    pub first-unprovable : IsProvableTuple x tuple → ⊥
+    first-unprovable provable =
+        let wrong : true ≡ false = sym ((decides tuple).1 provable) ∙ not-true (is_proved x tuple) here.passes in absurd cc
+
+    -- the rank of the tuple is the place at which it was found
+    pub before-provable : (rank : ℕ) → HasRank x order tuple rank → (other : List ℕ) (k : ℕ) → k < rank → HasRank x order other k → IsProvableTuple x other
+    before-provable rank has other k lt there =
+        let same : rank ≡ here.place =
+        sym (rank-at (length x.probes) order rank tuple has) ∙ rank-at (length x.probes) order here.place tuple here.there in
+        from-proved other (here.before k other (subst (λ n. k < n) same lt) there)
+
+pub first-is-tuple : (x : Instance) (order : ℕ) (tuple : List ℕ) → TuplesAreAll → first_of x order ≡ Some tuple → IsTuple (length x.probes) order tuple
+first-is-tuple x order tuple all first =
+    let here = found (λ t. not (is_proved x t)) (tuples_of x order) tuple first in
+    (all (length x.probes) order tuple).1 (contains_at (tuples_of x order) here.place tuple here.there)
+
+module _ (notion : Notion) (order : ℕ) (model : Model) (bytes : List ℕ) (kept : Accepted) (keeps : Keeps notion order model bytes kept) (decides : Decides kept.instance) where
   abbrev x : Instance
   x = kept.instance
 
-  pub secure-is : (count tuples : ℕ) (text : List ℕ) → IsFirst x None → count ≡ length x.probes → tuples ≡ count → text ≡ secure_report notion model count tuples
-      → IsSecure notion model bytes text
-  secure-is count tuples text first counted same written = record {
+  pub secure-is : (families : ℕ) (text : List ℕ) → first_of x order ≡ None → families ≡ length (tree_of x order)
+      → text ≡ secure_report notion order model (length x.probes) (length (tuples_of x order)) families → IsSecure notion order model bytes text
+  secure-is families text none counted written = record {
     netlist = keeps.netlist;
     instance = x;
     means = record { accepted = keeps.accepted; instance = keeps.instance };
-    all = provable;
-    report = written ∙ (λ i. secure_report notion model (counted i) ((same ∙ counted ∙ sym (count-tuples x)) i));
+    all = all-provable x order decides none;
+    report = written ∙ ap (secure_report notion order model (length x.probes) (length (tuples_of x order))) counted;
   }
-    where
-      provable : (tuple : List ℕ) (rank : ℕ) → HasRank x tuple rank → IsProvableTuple x tuple
-      provable tuple rank has =
-          let one = ranked 0 (length x.probes) rank tuple has in
-          subst (IsProvableTuple x) (sym one.is) (first (0 + rank) (omega (arith, one.within)))
 
-  name-is : (probe : ℕ) (name : List ℕ) → name ≡ printed_name kept.circuit.nets.wires (probe_at kept.probes.list probe).name_bit → name ≡ probe_name model keeps.netlist probe
-  name-is probe name is =
-      is ∙ (λ i. printed_name (ap (λ (n : Nets). n.wires) keeps.nets i) (probe_at (keeps.probes i) probe).name_bit)
-
-  pub unproved-is : (probe count tuples rank : ℕ) (tuple name text : List ℕ) → IsFirst x (Some probe) → count ≡ length x.probes → tuples ≡ count → rank ≡ probe → tuple ≡ probe ∷ []
-      → name ≡ printed_name kept.circuit.nets.wires (probe_at kept.probes.list probe).name_bit
-      → text ≡ unproved_report notion model count tuples rank (name ∷ []) → IsUnproved notion model bytes tuple text
-  unproved-is probe count tuples rank tuple name text first counted same rank_is single named written = record {
+  pub unproved-is : (rank : ℕ) (tuple text : List ℕ) → first_of x order ≡ Some tuple → HasRank x order tuple rank
+      → text ≡ unproved_report notion order model (length x.probes) (length (tuples_of x order)) rank (map (name_of_probe kept) tuple)
+      → IsUnproved notion order model bytes tuple text
+  unproved-is rank tuple text first ranked written = record {
     netlist = keeps.netlist;
     instance = x;
     means = record { accepted = keeps.accepted; instance = keeps.instance };
     rank = rank;
-    ranked = has-rank;
-    not_provable = λ h. first.1 (subst (IsProvableTuple x) single h);
-    first = before;
-    report = written ∙ (λ i. unproved_report notion model (counted i) ((same ∙ counted ∙ sym (count-tuples x)) i) rank (name-is probe name named i ∷ []))
-        ∙ sym (ap (λ (t : List ℕ). unproved_report notion model (length x.probes) (length (tuples_of_one x)) rank (map (probe_name model keeps.netlist) t)) single);
+    ranked = ranked;
+    not_provable = first-unprovable x order decides tuple first;
+    first = before-provable x order decides tuple first rank ranked;
+    report = written ∙ ap (unproved_report notion order model (length x.probes) (length (tuples_of x order)) rank) names;
   }
     where
-      has-rank : HasRank x tuple rank
-      has-rank =
-          let here : 0 + rank ≡ probe = omega arith in
-          single-at 0 (length x.probes) rank (omega (arith, first.0)) ∙ ap (λ k. Some (k ∷ [])) here ∙ ap (λ (t : List ℕ). Some t) (sym single)
-
-      before : (other : List ℕ) (k : ℕ) → k < rank → HasRank x other k → IsProvableTuple x other
-      before other k lt has =
-          let one = ranked 0 (length x.probes) k other has in
-          subst (IsProvableTuple x) (sym one.is) (first.2 (0 + k) (omega arith))
+      names : map (name_of_probe kept) tuple ≡ map (probe_name model keeps.netlist) tuple
+      names i = map (λ number. printed_name (ap (λ (n : Nets). n.wires) keeps.nets i) (probe_at (keeps.probes i) number).name_bit) tuple

@@ -9,9 +9,9 @@ use Rattle.mv_files.specs.Disk.{Disk, file_of, IsLonger}
 use Rattle.circuit_types.specs.declared.probes.Model.{Model}
 use Rattle.circuit_types.specs.declared.refusal.Refusal.{Refusal}
 use Rattle.expr_table.specs.declared.instance.Notion.{Notion}
+use Rattle.accepted_netlist.specs.Netlist.{HasRefusal}
 use Rattle.maskverif_cli.specs.declared.status.Status.{Status}
 use Rattle.maskverif_cli.specs.declared.status.Status.TheVariants.{Secure, Unproved, Usage, Refused, NoFile, ReadFault, WriteFault, NoMemory}
-use Rattle.maskverif_cli.specs.Netlist.{HasRefusal}
 use Rattle.maskverif_cli.specs.Report.{refused_report}
 use Rattle.maskverif_cli.specs.Answer.{IsDue, IsVerdict, NamesNetlist, is_answer}
 
@@ -27,15 +27,15 @@ verdict-due words disk WriteFault text h = absurd h.verdict
 verdict-due words disk NoMemory text h = absurd h.verdict
 
 -- and it is no fault
-pub verdict-answer : (notion : Notion) (model : Model) (bytes : List ℕ) (status : Status) (text : List ℕ) → IsVerdict notion model bytes status text → is_answer status ≡ true
-verdict-answer notion model bytes Secure text h = refl
-verdict-answer notion model bytes (Unproved tuple) text h = refl
-verdict-answer notion model bytes (Refused why) text h = refl
-verdict-answer notion model bytes Usage text h = absurd h
-verdict-answer notion model bytes NoFile text h = absurd h
-verdict-answer notion model bytes ReadFault text h = absurd h
-verdict-answer notion model bytes WriteFault text h = absurd h
-verdict-answer notion model bytes NoMemory text h = absurd h
+pub verdict-answer : (notion : Notion) (order : ℕ) (model : Model) (bytes : List ℕ) (status : Status) (text : List ℕ) → IsVerdict notion order model bytes status text → is_answer status ≡ true
+verdict-answer notion order model bytes Secure text h = refl
+verdict-answer notion order model bytes (Unproved tuple) text h = refl
+verdict-answer notion order model bytes (Refused why) text h = refl
+verdict-answer notion order model bytes Usage text h = absurd h
+verdict-answer notion order model bytes NoFile text h = absurd h
+verdict-answer notion order model bytes ReadFault text h = absurd h
+verdict-answer notion order model bytes WriteFault text h = absurd h
+verdict-answer notion order model bytes NoMemory text h = absurd h
 
 -- there are longer lists
 pub record LongList (n : ℕ) : Type 0 where
@@ -56,7 +56,7 @@ too-long name None limit h = let long = long-list limit in record { bytes = long
 too-long name (Some d) limit h = record { bytes = h.bytes; there = h.there; longer = h.longer }
 
 -- a refusal that is due, with its report
-pub refused-verdict : (notion : Notion) (model : Model) (bytes : List ℕ) (why : Refusal) (status : Status) (text : List ℕ) → HasRefusal notion model bytes why
-    → status ≡ Refused why → text ≡ refused_report why → IsVerdict notion model bytes status text
-refused-verdict notion model bytes why status text due is written =
-    subst (λ s. IsVerdict notion model bytes s text) (sym is) (record { refusal = due; report = written })
+pub refused-verdict : (notion : Notion) (order : ℕ) (model : Model) (bytes : List ℕ) (why : Refusal) (status : Status) (text : List ℕ) → HasRefusal notion order model bytes why
+    → status ≡ Refused why → text ≡ refused_report why → IsVerdict notion order model bytes status text
+refused-verdict notion order model bytes why status text due is written =
+    subst (λ s. IsVerdict notion order model bytes s text) (sym is) (record { refusal = due; report = written })

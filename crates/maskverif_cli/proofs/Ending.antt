@@ -14,13 +14,15 @@ use Rattle.mv_files.proofs.ToldLemmas.{told_same}
 use Rattle.circuit_types.specs.declared.probes.Model.{Model}
 use Rattle.circuit_types.specs.declared.refusal.Refusal.{Refusal}
 use Rattle.expr_table.specs.declared.instance.Notion.{Notion}
+use Rattle.accepted_netlist.specs.declared.netlist.Accepted.{Accepted}
+use Rattle.accepted_netlist.specs.Known.{Keeps}
+use Rattle.accepted_netlist.specs.Netlist.{HasRefusal}
 use Rattle.maskverif_cli.specs.declared.status.Status.{Status}
 use Rattle.maskverif_cli.specs.declared.status.Status.TheVariants.{NoFile, ReadFault, WriteFault, NoMemory, Refused}
 use Rattle.maskverif_cli.specs.declared.verify.Reply.{Reply}
+use Rattle.maskverif_cli.specs.declared.words.Question.{Question}
 use Rattle.maskverif_cli.specs.Answer.{Asked, NamesNoFile, IsDue, IsVerdict, is_answer}
-use Rattle.maskverif_cli.specs.declared.netlist.Accepted.{Accepted}
-use Rattle.maskverif_cli.specs.Known.{Keeps}
-use Rattle.maskverif_cli.specs.Netlist.{HasRefusal}
+use Rattle.maskverif_cli.specs.Kept.{IsReplyTo}
 use Rattle.maskverif_cli.specs.Report.{refused_report}
 use Rattle.maskverif_cli.specs.Run.{Outside, Finishes, Stays, Runs}
 use Rattle.maskverif_cli.proofs.Due.{verdict-due, verdict-answer, refused-verdict}
@@ -47,17 +49,16 @@ pub unread : (old new : Outside) → new.disk ≡ old.disk → new.read_faults �
 unread old new disk reads writes = record { files = told_same SameFiles (λ (d : Disk). record { files = refl }) old.disk new.disk disk; reads = reads; writes = writes }
 
 -- the reply to a netlist that is refused
-pub refused-reply : (notion : Notion) (model : Model) (bytes : List ℕ) (why : Refusal) (reply : Result Reply AllocError) → HasRefusal notion model bytes why
-    → IfOk reply (λ r. r.status ≡ Refused why) → IfOk reply (λ r. r.text.items ≡ refused_report why) → IfOk reply (λ r. IsVerdict notion model bytes r.status r.text.items)
-refused-reply notion model bytes why (Ok r) due is text = refused-verdict notion model bytes why r.status r.text.items due is text
-refused-reply notion model bytes why (Err e) due is text = tt
+pub refused-reply : (notion : Notion) (order : ℕ) (model : Model) (bytes : List ℕ) (why : Refusal) (reply : Result Reply AllocError) → HasRefusal notion order model bytes why
+    → IfOk reply (λ r. r.status ≡ Refused why) → IfOk reply (λ r. r.text.items ≡ refused_report why) → IfOk reply (λ r. IsVerdict notion order model bytes r.status r.text.items)
+refused-reply notion order model bytes why (Ok r) due is text = refused-verdict notion order model bytes why r.status r.text.items due is text
+refused-reply notion order model bytes why (Err e) due is text = tt
 
 -- the reply to a netlist that is accepted
-pub kept-reply : (notion : Notion) (model : Model) (bytes : List ℕ) (kept : Accepted) (reply : Result Reply AllocError) → Keeps notion model bytes kept
-    → IfOk reply (λ r. (some : List ℕ) → Keeps notion model some kept → IsVerdict notion model some r.status r.text.items)
-    → IfOk reply (λ r. IsVerdict notion model bytes r.status r.text.items)
-kept-reply notion model bytes kept (Ok r) keeps h = h bytes keeps
-kept-reply notion model bytes kept (Err e) keeps h = tt
+pub kept-reply : (asked : Question) (bytes : List ℕ) (kept : Accepted) (reply : Result Reply AllocError) → Keeps asked.notion asked.order asked.model bytes kept
+    → IfOk reply (IsReplyTo asked kept) → IfOk reply (λ r. IsVerdict asked.notion asked.order asked.model bytes r.status r.text.items)
+kept-reply asked bytes kept (Ok r) keeps h = h bytes keeps
+kept-reply asked bytes kept (Err e) keeps h = tt
 
 module _ (words : List (String Global)) (old new : Outside) where
   is_no_fault : (status fault : Status) → is_answer status ≡ true → is_answer fault ≡ false → status ≢ fault
@@ -88,14 +89,14 @@ module _ (words : List (String Global)) (old new : Outside) where
 
   -- a reply was sent, or a part of it; or there was no memory for one
   pub sent : (asked : Asked words) (bytes : List ℕ) (reply : Result Reply AllocError) (result : Status) → IfSome old.disk (λ d. file_of asked.name d ≡ Some bytes)
-      → IfOk reply (λ r. IsVerdict asked.notion asked.model bytes r.status r.text.items) → IsRead old new
+      → IfOk reply (λ r. IsVerdict asked.notion asked.order asked.model bytes r.status r.text.items) → IsRead old new
       → MatchResult reply (λ r. Finishes r.text.items r.status old.written new.written old.sink_faults new.sink_faults result)
       (λ e. (result ≡ NoMemory) × Stays old.written new.written old.sink_faults new.sink_faults)
       → Runs words old new result
   sent asked bytes (Ok r) result there verdict read ends =
       finished r.text.items r.status result
       (verdict-due words old.disk r.status r.text.items (record { asked = asked; bytes = bytes; there = there; verdict = verdict }))
-      (verdict-answer asked.notion asked.model bytes r.status r.text.items verdict) read ends
+      (verdict-answer asked.notion asked.order asked.model bytes r.status r.text.items verdict) read ends
   sent asked bytes (Err e) result there verdict read ends =
       subst (Runs words old new) (sym ends.0) (record {
         answer = λ wrong. cc;

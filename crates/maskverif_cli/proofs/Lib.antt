@@ -1,10 +1,5 @@
-pub mod Texts
 pub mod Taken
-pub mod Singles
-pub mod Causing
-pub mod EachShare
-pub mod Premises
-pub mod Steps
+pub mod Finding
 pub mod Due
 pub mod Deciding
 pub mod Ending

@@ -8,35 +8,36 @@ use Rattle.mv_files.specs.Sending.{Adds, AddsPart}
 use Rattle.circuit_types.specs.declared.probes.Model.{Model}
 use Rattle.circuit_types.specs.declared.refusal.Refusal.{Refusal as AnyRefusal}
 use Rattle.expr_table.specs.declared.instance.Notion.{Notion}
+use Rattle.accepted_netlist.specs.Netlist.{Netlist, HasRefusal, IsAcceptedAs}
 use Rattle.maskverif_cli.specs.declared.status.Status.{Status}
 use Rattle.maskverif_cli.specs.declared.status.Status.TheVariants.{Secure, Unproved, Usage, Refused, NoFile, ReadFault, WriteFault, NoMemory}
 use Rattle.maskverif_cli.specs.Words.{AreTaken}
 use Rattle.maskverif_cli.specs.Report.{usage_text, refused_report}
-use Rattle.maskverif_cli.specs.Netlist.{Netlist, HasRefusal, IsAcceptedAs}
 use Rattle.maskverif_cli.specs.Verdict.{IsSecure, IsUnproved}
 
 -- a refusal is due for the bytes, and this is the report on it
-pub record IsRefused (notion : Notion) (model : Model) (bytes : List ℕ) (why : AnyRefusal) (text : List ℕ) : Type 0 where
-  pub refusal : HasRefusal notion model bytes why
+pub record IsRefused (notion : Notion) (order : ℕ) (model : Model) (bytes : List ℕ) (why : AnyRefusal) (text : List ℕ) : Type 0 where
+  pub refusal : HasRefusal notion order model bytes why
   pub report : text ≡ refused_report why
 
 -- what the bytes of a netlist are answered with, and the report on them
-abbrev pub IsVerdict : Notion → Model → List ℕ → Status → List ℕ → Type 0
-IsVerdict notion model bytes Secure text = IsSecure notion model bytes text
-IsVerdict notion model bytes (Unproved tuple) text = IsUnproved notion model bytes tuple.items text
-IsVerdict notion model bytes (Refused why) text = IsRefused notion model bytes why text
-IsVerdict notion model bytes status text = ⊥
+abbrev pub IsVerdict : Notion → ℕ → Model → List ℕ → Status → List ℕ → Type 0
+IsVerdict notion order model bytes Secure text = IsSecure notion order model bytes text
+IsVerdict notion order model bytes (Unproved tuple) text = IsUnproved notion order model bytes tuple.items text
+IsVerdict notion order model bytes (Refused why) text = IsRefused notion order model bytes why text
+IsVerdict notion order model bytes status text = ⊥
 
 -- nothing is asked of a netlist by the words
 abbrev pub NotTaken : List (String Global) → Type 0
-NotTaken words = (notion : Notion) (model : Model) (name : List ℕ) → AreTaken words notion model name → ⊥
+NotTaken words = (notion : Notion) (order : ℕ) (model : Model) (name : List ℕ) → AreTaken words notion order model name → ⊥
 
--- the words ask for a notion, a model and a netlist
+-- the words ask for a notion, an order, a model and a netlist
 pub record Asked (words : List (String Global)) : Type 0 where
   pub notion : Notion
+  pub order : ℕ
   pub model : Model
   pub name : List ℕ
-  pub taken : AreTaken words notion model name
+  pub taken : AreTaken words notion order model name
 
 -- the words name a netlist that is not there
 pub record NamesNoFile (words : List (String Global)) (disk : Option Disk) : Type 0 where
@@ -48,7 +49,7 @@ pub record NamesNetlist (words : List (String Global)) (disk : Option Disk) (sta
   pub asked : Asked words
   pub bytes : List ℕ
   pub there : IfSome disk (λ d. file_of asked.name d ≡ Some bytes)
-  pub verdict : IsVerdict asked.notion asked.model bytes status text
+  pub verdict : IsVerdict asked.notion asked.order asked.model bytes status text
 
 -- The answer that is due to the words over these files, and the text that is due with it. No fault is due, nor
 -- want of memory.
@@ -82,7 +83,7 @@ pub record NamesAccepted (words : List (String Global)) (disk : Option Disk) : T
   pub bytes : List ℕ
   pub there : file_of asked.name told ≡ Some bytes
   pub netlist : Netlist
-  pub accepted : IsAcceptedAs asked.notion asked.model bytes netlist
+  pub accepted : IsAcceptedAs asked.notion asked.order asked.model bytes netlist
 
 -- what was due was answered, and its text was written
 pub record Answers (words : List (String Global)) (disk : Option Disk) (old new : Option (List ℕ)) (status : Status) : Type 0 where

@@ -1,8 +1,7 @@
 pub mod Words
 pub mod Status
 pub mod Report
-pub mod Netlist
 pub mod Verdict
-pub mod Known
 pub mod Answer
+pub mod Kept
 pub mod Run

@@ -15,22 +15,28 @@ abbrev pub line : List ℕ → List ℕ
 line text = text ++ 10 ∷ []
 
 -- the second to the fourth line of a report on a netlist
-abbrev pub counts_of : Notion → Model → ℕ → ℕ → List ℕ
-counts_of notion model probes tuples =
-    line (codes "notion " ++ notion_word notion ++ codes " order 1 model " ++ model_word model)
+abbrev pub counts_of : Notion → ℕ → Model → ℕ → ℕ → List ℕ
+counts_of notion order model probes tuples =
+    line (codes "notion " ++ notion_word notion ++ codes " order " ++ decimal order ++ codes " model " ++ model_word model)
     ++ line (codes "probes " ++ decimal probes)
     ++ line (codes "tuples " ++ decimal tuples)
 
-abbrev pub secure_report : Notion → Model → ℕ → ℕ → List ℕ
-secure_report notion model probes tuples = line (codes "Secure") ++ counts_of notion model probes tuples
+-- the report where each tuple is provable, with the number of families of the proof tree
+abbrev pub secure_report : Notion → ℕ → Model → ℕ → ℕ → ℕ → List ℕ
+secure_report notion order model probes tuples families =
+    line (codes "Secure") ++ counts_of notion order model probes tuples ++ line (codes "families " ++ decimal families)
+
+-- a line for each of these names of probes
+abbrev pub probe_lines : List (List ℕ) → List ℕ
+probe_lines names = flat_map (λ name. line (codes "probe " ++ name)) names
 
 -- the report on an unproved tuple: its rank, and the names of its probes
-abbrev pub unproved_report : Notion → Model → ℕ → ℕ → ℕ → List (List ℕ) → List ℕ
-unproved_report notion model probes tuples rank names =
+abbrev pub unproved_report : Notion → ℕ → Model → ℕ → ℕ → ℕ → List (List ℕ) → List ℕ
+unproved_report notion order model probes tuples rank names =
     line (codes "Unproved")
-    ++ counts_of notion model probes tuples
+    ++ counts_of notion order model probes tuples
     ++ line (codes "rank " ++ decimal rank)
-    ++ flat_map (λ name. line (codes "probe " ++ name)) names
+    ++ probe_lines names
 
 -- what is too much, by its name
 abbrev pub limit_words : Which → List ℕ

@@ -15,8 +15,7 @@ pub fn one_answer_is_due()
         → IsDue words (Some disk) status text → IsDue words (Some disk) other written
         → (status ≡ other) × (text ≡ written) }
 {
-    rtlil_tree::one_tree();
-    rtlil_tree::one_refusal();
+    accepted_netlist::one_netlist_or_refusal();
     term_build::one_instance();
 }
 
@@ -25,6 +24,5 @@ pub fn accepted_is_decided()
     ensures { (words : List (String Global)) (disk : Option Disk) (status : Status) (text : List ℕ)
         → NamesAccepted words disk → IsDue words disk status text → IsTrue (is_decided status) }
 {
-    rtlil_tree::one_tree();
-    rtlil_tree::one_refusal();
+    accepted_netlist::one_netlist_or_refusal();
 }

@@ -1,15 +1,14 @@
 //! The commands of the program, over files and a sink that are handed in.
 //!
-//! [`run_plain`] reads the words of a command, reads the netlist that they name step by step, makes the netlist's
-//! *instance*, and decides it probe by probe. A [`Status`] says how the command ended. An
-//! answer is *due* where the words and the files call for it: a verdict on the netlist, a refusal, a
-//! missing file, or how the program is called. Where no call failed, the answer is the one that is due,
-//! and the sink has taken its *report*.
+//! [`run_plain`] reads the words of a command and the bytes of the netlist that they name, makes the netlist's *instance*
+//! if it is accepted, and decides it: either each *tuple* of at most as many probes as the order is provable, or there is
+//! a first one that is not. A [`Status`] says how the command ended. An answer is *due* where the words and the files call
+//! for it: a verdict on the netlist, a refusal, a missing file, or how the program is called. Where no call failed, the
+//! answer is the one that is due, and the sink has taken its *report*.
 #![tactic(auto)]
 
-mod decide;
 mod laws;
-mod netlist;
+mod naming;
 mod report;
 mod run;
 mod status;
@@ -21,4 +20,5 @@ mod words;
 pub use circuit_types::{Refusal, Which};
 pub use laws::{accepted_is_decided, one_answer_is_due};
 pub use run::run_plain;
-pub use status::{Status, Tuple};
+pub use status::Status;
+pub use tuple_rank::Tuple;

@@ -1,11 +1,11 @@
 //! The texts that the program writes.
 
-ghost use Rattle.std.specs.Prelude.{◌≡◌, ◌∷◌, [], IfOk};
-ghost use Rattle.maskverif_cli.specs.Report.{counts_of, secure_report, unproved_report, refused_report, usage_text, limit_words, line_of, refusal_words};
+ghost use Rattle.std.specs.Prelude.{◌≡◌, ℕ, List, IfOk};
+ghost use Rattle.maskverif_cli.specs.Report.{counts_of, secure_report, probe_lines, unproved_report, refused_report, usage_text};
+ghost use Rattle.maskverif_cli.specs.Report.{limit_words, line_of, refusal_words};
 
-use crate::words::{model_word, notion_word};
-use circuit_types::{Model, Refusal, Which};
-use expr_table::Notion;
+use crate::words::{Question, model_word, notion_word};
+use circuit_types::{Refusal, Which};
 use sequences::NoMemory;
 use std::alloc::Global;
 
@@ -113,64 +113,58 @@ pub fn refused(alloc: Global, refusal: Refusal) -> Result<Vec<u8>, NoMemory>
     Ok(text.into_bytes())
 }
 
+/// What each report on an accepted netlist says: what was asked, and how much was looked at.
+#[derive(Clone, Copy)]
+pub struct Heading {
+    pub question: Question,
+    pub probes: u32,
+    pub tuples: u64,
+}
+
 /// The lines of a report on a netlist that say what was asked and how much was looked at.
-fn counts(
-    alloc: Global,
-    notion: Notion,
-    model: Model,
-    probes: u32,
-    tuples: u64,
-) -> Result<Vec<u8>, NoMemory>
-    ensures { IfOk result (λ text. text.items ≡ counts_of notion model probes tuples) }
+fn counts(alloc: Global, heading: Heading) -> Result<Vec<u8>, NoMemory>
+    ensures { let asked = heading.question in
+        IfOk result (λ text. text.items ≡ counts_of asked.notion asked.order asked.model heading.probes heading.tuples) }
 {
-    let notion = notion_word(notion);
-    let model = model_word(model);
+    let notion = notion_word(heading.question.notion);
+    let order = heading.question.order;
+    let model = model_word(heading.question.model);
+    let probes = heading.probes;
+    let tuples = heading.tuples;
     let text = format!(in alloc;
-        "notion {notion} order 1 model {model}\nprobes {probes}\ntuples {tuples}\n"
+        "notion {notion} order {order} model {model}\nprobes {probes}\ntuples {tuples}\n"
     )?;
     Ok(text.into_bytes())
 }
 
-/// The report where each tuple is provable.
-pub fn secure(
-    alloc: Global,
-    notion: Notion,
-    model: Model,
-    probes: u32,
-    tuples: u64,
-) -> Result<Vec<u8>, NoMemory>
-    ensures { IfOk result (λ text. text.items ≡ secure_report notion model probes tuples) }
+/// The report where each tuple is provable, with the number of families of the proof tree.
+pub fn secure(alloc: Global, heading: Heading, families: usize) -> Result<Vec<u8>, NoMemory>
+    ensures { let asked = heading.question in
+        IfOk result (λ text. text.items
+        ≡ secure_report asked.notion asked.order asked.model heading.probes heading.tuples families) }
 {
     let mut text = Vec::from_slice(alloc, b"Secure\n")?;
-    text.extend_from_slice(counts(alloc, notion, model, probes, tuples)?.as_slice())?;
+    text.extend_from_slice(counts(alloc, heading)?.as_slice())?;
+    let line = format!(in alloc; "families {families}\n")?;
+    text.extend_from_slice(line.as_bytes())?;
     Ok(text)
 }
 
-/// The first unproved tuple, of one probe: its rank and the probe's name.
-#[derive(Drop)]
-pub struct FirstTuple<'a> {
-    pub rank: u64,
-    pub name: &'a [u8],
-}
-
-/// The report on the first unproved tuple.
+/// The report on the first unproved tuple, with its rank and the lines of its probes.
 pub fn unproved(
     alloc: Global,
-    notion: Notion,
-    model: Model,
-    probes: u32,
-    tuples: u64,
-    found: FirstTuple<'_>,
+    heading: Heading,
+    rank: u64,
+    lines: &[u8],
 ) -> Result<Vec<u8>, NoMemory>
-    ensures { IfOk result (λ text. text.items
-        ≡ unproved_report notion model probes tuples found.entry.rank (found.entry.name.now ∷ [])) }
+    ensures { let asked = heading.question in
+        IfOk result (λ text. (names : List (List ℕ)) → lines.now ≡ probe_lines names → text.items
+        ≡ unproved_report asked.notion asked.order asked.model heading.probes heading.tuples rank names) }
 {
     let mut text = Vec::from_slice(alloc, b"Unproved\n")?;
-    text.extend_from_slice(counts(alloc, notion, model, probes, tuples)?.as_slice())?;
-    let rank = found.rank;
-    let place = format!(in alloc; "rank {rank}\nprobe ")?;
-    text.extend_from_slice(place.as_bytes())?;
-    text.extend_from_slice(found.name)?;
-    text.push(b'\n')?;
+    text.extend_from_slice(counts(alloc, heading)?.as_slice())?;
+    let line = format!(in alloc; "rank {rank}\n")?;
+    text.extend_from_slice(line.as_bytes())?;
+    text.extend_from_slice(lines)?;
     Ok(text)
 }

@@ -79,13 +79,10 @@ fn run_command<F: Files, O: Sink>(
             return send(out, refused(alloc, Refusal::Limit(Which::FileBytes)));
         }
     };
-    send(
-        out,
-        verify(alloc, asked.notion, asked.model, bytes.as_slice()),
-    )
+    send(out, verify(alloc, asked.question, bytes.as_slice()))
 }
 
-/// Runs the command that the words are, `verify NOTION 1 MODEL NETLIST`, over these files, and writes its
+/// Runs the command that the words are, `verify NOTION ORDER MODEL NETLIST`, over these files, and writes its
 /// report to the sink. It waits for nobody and always returns.
 pub fn run_plain<F: Files, O: Sink>(
     alloc: Global,

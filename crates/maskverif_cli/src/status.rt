@@ -2,18 +2,15 @@
 
 ghost use Rattle.std.specs.Prelude.{◌≡◌};
 
-use arrayvec::ArrayVec;
 use circuit_types::Refusal;
-
-/// Numbers of probes, ascending and without repeats.
-pub type Tuple = ArrayVec<u32, 8>;
+use tuple_rank::Tuple;
 
 /// How a command ended.
 #[derive(Debug, Drop)]
 pub enum Status {
     /// The rules prove each tuple of probes.
     Secure,
-    /// The first tuple of probes that the rules do not prove.
+    /// The first tuple of probes that the rules do not prove, by size and then lexicographically.
     Unproved(Tuple),
     /// The words are no command.
     Usage,

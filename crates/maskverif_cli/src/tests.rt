@@ -139,10 +139,20 @@ module \gadget
 end
 "#;
 
-const SECURE: &str = "Secure\nnotion probing order 1 model value\nprobes 5\ntuples 5\n";
+/// A module whose only wire is a random bit, 813 of them, and 65,536 of them.
+const RANDOM: &str = "module \\e\n  attribute \\mask \"random\"\n  wire input 1 \\r\nend\n";
 
-const UNPROVED: &str =
-    "Unproved\nnotion probing order 1 model value\nprobes 5\ntuples 5\nrank 4\nprobe y1\n";
+const RANDOM_813: &str =
+    "module \\e\n  attribute \\mask \"random\"\n  wire width 813 input 1 \\r\nend\n";
+
+const RANDOM_65536: &str =
+    "module \\e\n  attribute \\mask \"random\"\n  wire width 65536 input 1 \\r\nend\n";
+
+const SECURE: &str = "Secure\nnotion probing order 1 model value\nprobes 5\ntuples 5\nfamilies 2\n";
+
+/// The refresh leaks two shares to two probes; there are 31 tuples of at most eight of its five probes.
+const ORDER_8: &str =
+    "Unproved\nnotion probing order 8 model value\nprobes 5\ntuples 31\nrank 5\nprobe x0\nprobe x1\n";
 
 const USAGE: &str =
     "usage: maskverif verify NOTION ORDER MODEL NETLIST [--workers N] [--certificate OUT] [--schedule SEED]
@@ -214,16 +224,16 @@ fn edited(alloc: Global, text: &str, edits: &[(usize, &str)]) -> Result<Vec<u8>,
     Ok(bytes)
 }
 
-/// Compares the answer to a netlist with what is due: what is asked of it is a notion and a model.
+/// Compares the answer to a netlist with what is due: what is asked of it is a notion, an order and a model.
 fn expect(
     rt: &impl Abort,
     alloc: Global,
-    asked: [&str; 2],
+    asked: [&str; 3],
     bytes: Vec<u8>,
     status: u8,
     report: &str,
 ) -> Result<(), NoMemory> {
-    let words = ["verify", asked[0], "1", asked[1], "f.il"];
+    let words = ["verify", asked[0], asked[1], asked[2], "f.il"];
     let (code, written) = outcome(alloc, words.as_slice(), bytes, NO_FAULTS)?;
     assert_eq!(rt; code, status, "{report}");
     assert_eq!(rt; written.as_slice(), report.as_bytes(), "{report}");
@@ -232,24 +242,82 @@ fn expect(
 
 /// The same for a netlist that is refused.
 fn refuses(rt: &impl Abort, alloc: Global, bytes: Vec<u8>, report: &str) -> Result<(), NoMemory> {
-    expect(rt, alloc, ["probing", "value"], bytes, 3, report)
+    expect(rt, alloc, ["probing", "1", "value"], bytes, 3, report)
 }
 
 #[test]
-fn decides_a_refresh(rt: HostRuntime) -> Result<(), Fail> {
+fn answers_by_order(rt: HostRuntime) -> Result<(), Fail> {
     let alloc = rt.alloc();
-    let plain = edited(alloc, REFRESH, [].as_slice())?;
-    expect(&rt, alloc, ["probing", "value"], plain, 0, SECURE)?;
+    for (text, asked, status, report) in [
+        (REFRESH, ["probing", "1", "value"], 0, SECURE),
+        (WIDE, ["probing", "1", "value"], 0, SECURE),
+        (
+            REFRESH,
+            ["probing", "2", "value"],
+            1,
+            "Unproved\nnotion probing order 2 model value\nprobes 5\ntuples 15\nrank 5\nprobe x0\nprobe x1\n",
+        ),
+        (
+            REFRESH,
+            ["sni", "1", "value"],
+            0,
+            "Secure\nnotion sni order 1 model value\nprobes 5\ntuples 5\nfamilies 4\n",
+        ),
+        (
+            REFRESH,
+            ["ni", "2", "value"],
+            0,
+            "Secure\nnotion ni order 2 model value\nprobes 5\ntuples 15\nfamilies 3\n",
+        ),
+        (
+            "module \\e\nend\n",
+            ["probing", "3", "value"],
+            0,
+            "Secure\nnotion probing order 3 model value\nprobes 0\ntuples 0\nfamilies 0\n",
+        ),
+        (
+            RANDOM,
+            ["probing", "8", "value"],
+            0,
+            "Secure\nnotion probing order 8 model value\nprobes 1\ntuples 1\nfamilies 1\n",
+        ),
+        (
+            RANDOM_813,
+            ["probing", "8", "value"],
+            3,
+            "Refused 14 Limit Tuples\n",
+        ),
+        (
+            RANDOM_65536,
+            ["probing", "8", "value"],
+            3,
+            "Refused 14 Limit Probes\n",
+        ),
+    ] {
+        let bytes = Vec::from_slice(alloc, text.as_bytes())?;
+        expect(&rt, alloc, asked, bytes, status, report)?;
+    }
+    Ok(())
+}
+
+#[test]
+fn decides_an_edited_refresh(rt: HostRuntime) -> Result<(), Fail> {
+    let alloc = rt.alloc();
     let leaky = edited(alloc, REFRESH, [(23, "    connect \\B \\x0\n")].as_slice())?;
-    expect(&rt, alloc, ["probing", "value"], leaky, 1, UNPROVED)?;
+    expect(
+        &rt,
+        alloc,
+        ["probing", "1", "value"],
+        leaky,
+        1,
+        "Unproved\nnotion probing order 1 model value\nprobes 5\ntuples 5\nrank 4\nprobe y1\n",
+    )?;
     let unread = edited(
         alloc,
         REFRESH,
         [(15, "  wire output 5 \\y1\n  wire \\w\n  connect \\w 1'x\n")].as_slice(),
     )?;
-    expect(&rt, alloc, ["probing", "value"], unread, 0, SECURE)?;
-    let wide = edited(alloc, WIDE, [].as_slice())?;
-    expect(&rt, alloc, ["probing", "value"], wide, 0, SECURE)?;
+    expect(&rt, alloc, ["probing", "1", "value"], unread, 0, SECURE)?;
     let chosen = edited(
         alloc,
         REFRESH,
@@ -266,7 +334,7 @@ fn decides_a_refresh(rt: HostRuntime) -> Result<(), Fail> {
     expect(
         &rt,
         alloc,
-        ["sni", "value"],
+        ["sni", "1", "value"],
         chosen,
         1,
         "Unproved\nnotion sni order 1 model value\nprobes 6\ntuples 6\nrank 4\nprobe y0\n",
@@ -274,18 +342,26 @@ fn decides_a_refresh(rt: HostRuntime) -> Result<(), Fail> {
     Ok(())
 }
 
-const SECURE_GADGET: &str = "Secure\nnotion probing order 1 model glitch\nprobes 15\ntuples 15\n";
+const SECURE_GADGET: &str =
+    "Secure\nnotion probing order 1 model glitch\nprobes 15\ntuples 15\nfamilies 6\n";
 
 #[test]
 fn decides_a_gadget(rt: HostRuntime) -> Result<(), Fail> {
     let alloc = rt.alloc();
     let plain = edited(alloc, GADGET, [].as_slice())?;
-    expect(&rt, alloc, ["probing", "glitch"], plain, 0, SECURE_GADGET)?;
+    expect(
+        &rt,
+        alloc,
+        ["probing", "1", "glitch"],
+        plain,
+        0,
+        SECURE_GADGET,
+    )?;
     let again = edited(alloc, GADGET, [].as_slice())?;
     expect(
         &rt,
         alloc,
-        ["sni", "glitch"],
+        ["sni", "1", "glitch"],
         again,
         1,
         "Unproved\nnotion sni order 1 model glitch\nprobes 15\ntuples 15\nrank 13\nprobe c[0]\n",
@@ -307,10 +383,10 @@ fn decides_a_gadget(rt: HostRuntime) -> Result<(), Fail> {
     expect(
         &rt,
         alloc,
-        ["sni", "glitch"],
+        ["sni", "1", "glitch"],
         registered,
         0,
-        "Secure\nnotion sni order 1 model glitch\nprobes 17\ntuples 17\n",
+        "Secure\nnotion sni order 1 model glitch\nprobes 17\ntuples 17\nfamilies 8\n",
     )?;
     let reset = edited(
         alloc,
@@ -325,7 +401,14 @@ fn decides_a_gadget(rt: HostRuntime) -> Result<(), Fail> {
         ]
         .as_slice(),
     )?;
-    expect(&rt, alloc, ["probing", "glitch"], reset, 0, SECURE_GADGET)?;
+    expect(
+        &rt,
+        alloc,
+        ["probing", "1", "glitch"],
+        reset,
+        0,
+        SECURE_GADGET,
+    )?;
     Ok(())
 }
 
@@ -341,7 +424,7 @@ fn decides_a_gadget_without_registers(rt: HostRuntime) -> Result<(), Fail> {
         (
             "value",
             0,
-            "Secure\nnotion probing order 1 model value\nprobes 13\ntuples 13\n",
+            "Secure\nnotion probing order 1 model value\nprobes 13\ntuples 13\nfamilies 5\n",
         ),
     ] {
         let bytes = edited(
@@ -363,7 +446,7 @@ fn decides_a_gadget_without_registers(rt: HostRuntime) -> Result<(), Fail> {
             ]
             .as_slice(),
         )?;
-        expect(&rt, alloc, ["probing", model], bytes, status, report)?;
+        expect(&rt, alloc, ["probing", "1", model], bytes, status, report)?;
     }
     Ok(())
 }
@@ -464,8 +547,19 @@ fn reads_the_words(rt: HostRuntime) -> Result<(), Fail> {
             2,
             USAGE,
         ),
-        (["verify", "probing", "2", "value", "f.il"], 2, USAGE),
+        (["verify", "probing", "01", "value", "f.il"], 0, SECURE),
+        (["verify", "probing", "08", "value", "f.il"], 1, ORDER_8),
+        (["verify", "probing", "008", "value", "f.il"], 1, ORDER_8),
+        (["verify", "probing", "0", "value", "f.il"], 2, USAGE),
+        (["verify", "probing", "9", "value", "f.il"], 2, USAGE),
         (["verify", "probing", "10", "value", "f.il"], 2, USAGE),
+        (
+            ["verify", "probing", "18446744073709551617", "value", "f.il"],
+            2,
+            USAGE,
+        ),
+        (["verify", "probing", "1x", "value", "f.il"], 2, USAGE),
+        (["verify", "probing", "+1", "value", "f.il"], 2, USAGE),
         (["verify", "probing", "", "value", "f.il"], 2, USAGE),
         (["verify", "pini", "1", "value", "f.il"], 2, USAGE),
         (["verify", "probing", "1", "values", "f.il"], 2, USAGE),

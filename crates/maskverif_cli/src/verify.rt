@@ -1,22 +1,26 @@
 //! The answer to a netlist's bytes, with its report.
 
-ghost use Rattle.std.specs.Prelude.{◌≡◌, ◌≤◌, ◌∷◌, [], ℕ, List, IfOk, length};
+ghost use Rattle.std.specs.Prelude.{◌≡◌, ◌≤◌, None, Some, IfOk, length};
 ghost use Rattle.rtlil_lex.specs.Tokens.{most_bytes};
-ghost use Rattle.net_build.specs.Names.{printed_name};
+ghost use Rattle.frontier_core.specs.Tree.{first_of, tree_of};
+ghost use Rattle.accepted_netlist.specs.Known.{IsKept};
 ghost use Rattle.maskverif_cli.specs.declared.status.Status.TheVariants as status;
 ghost use Rattle.maskverif_cli.specs.Answer.{IsVerdict};
-ghost use Rattle.maskverif_cli.specs.Known.{HasBitsWithin, IsKept, Keeps};
+ghost use Rattle.maskverif_cli.specs.Kept.{heading_of, IsReplyTo};
 ghost use Rattle.maskverif_cli.specs.Report.{refused_report};
 
-use crate::decide::first_not_provable;
-use crate::netlist::{Accepted, accept};
+use crate::naming::probe_lines;
 use crate::report;
-use crate::status::{Status, Tuple};
-use circuit_types::{Model, Nets, Refusal, Stop};
-use expr_table::Notion;
-use net_build::name_of;
+use crate::report::Heading;
+use crate::status::Status;
+use crate::words::Question;
+use accepted_netlist::{Accepted, accept};
+use circuit_types::{Refusal, Stop};
+use once_random::proved_is_provable;
 use sequences::NoMemory;
 use std::alloc::{AllocError, Global};
+use tuple_rank::{Tuple, tuples_are_all};
+use worker_pool::{Verdict, verify_one};
 
 /// A status, and the report that is due with it.
 #[derive(Drop)]
@@ -37,68 +41,89 @@ pub fn refused(alloc: Global, refusal: Refusal) -> Result<Reply, NoMemory>
     })
 }
 
-/// The printed name of a bit; a bit that the netlist lacks has none.
-fn printed_name(alloc: Global, nets: &Nets, bit: u32) -> Result<Vec<u8>, NoMemory>
-    requires { HasBitsWithin nets.now }
-    ensures { IfOk result (λ name. name.items ≡ printed_name nets.now.wires bit) }
+/// What each report on an accepted netlist says.
+fn heading(question: Question, netlist: &Accepted) -> Heading
+    requires { IsKept question.order netlist.now }
+    ensures { result ≡ heading_of question netlist.now }
 {
-    if bit as usize >= nets.sources.as_slice().len() {
-        return Ok(Vec::new(alloc));
+    Heading {
+        question,
+        probes: netlist.probes.list.as_slice().len() as u32,
+        tuples: netlist.counts.total(),
     }
-    name_of(alloc, nets, bit)
 }
 
-/// The tuple of one probe.
-fn single(probe: u32) -> Tuple
-    ensures { result.items ≡ probe ∷ [] }
-{
-    let mut tuple = Tuple::new();
-    tuple.push(probe);
-    tuple
-}
-
-/// What is answered to a netlist that is accepted.
-fn verdict(
+/// The answer to a netlist each of whose tuples is proved, with so many families in the proof tree.
+fn secure(
     alloc: Global,
-    notion: Notion,
-    model: Model,
+    question: Question,
     netlist: &Accepted,
+    families: usize,
 ) -> Result<Reply, NoMemory>
-    requires { IsKept netlist.now }
-    ensures { IfOk result (λ reply. (bytes : List ℕ) → Keeps notion model bytes netlist.now
-        → IsVerdict notion model bytes reply.status reply.text.items) }
+    requires kept { IsKept question.order netlist.now }
+    requires none { first_of netlist.now.instance question.order ≡ None }
+    requires families { families ≡ length (tree_of netlist.now.instance question.order) }
+    ensures { IfOk result (IsReplyTo question netlist.now) }
 {
-    let probes = netlist.probes.list.as_slice();
-    let count = probes.len() as u32;
-    let tuples = u64::from(count);
-    let Some(probe) = first_not_provable(alloc, &netlist.instance)? else {
-        return Ok(Reply {
-            status: Status::Secure,
-            text: report::secure(alloc, notion, model, count, tuples)?,
-        });
-    };
-    let name = printed_name(
-        alloc,
-        &netlist.circuit.nets,
-        probes[probe as usize].name_bit,
-    )?;
-    let found = report::FirstTuple {
-        rank: u64::from(probe),
-        name: name.as_slice(),
-    };
+    proved_is_provable();
+    let text = report::secure(alloc, heading(question, netlist), families)?;
     Ok(Reply {
-        status: Status::Unproved(single(probe)),
-        text: report::unproved(alloc, notion, model, count, tuples, found)?,
+        status: Status::Secure,
+        text,
     })
 }
 
-/// What is answered to the bytes of a netlist.
-pub fn verify(alloc: Global, notion: Notion, model: Model, bytes: &[u8]) -> Result<Reply, NoMemory>
-    requires { length bytes.now ≤ most_bytes }
-    ensures { IfOk result (λ reply. IsVerdict notion model bytes.now reply.status reply.text.items) }
+/// The answer to a netlist whose first unproved tuple this is.
+fn unproved(
+    alloc: Global,
+    question: Question,
+    netlist: &Accepted,
+    tuple: Tuple,
+) -> Result<Reply, NoMemory>
+    requires kept { IsKept question.order netlist.now }
+    requires first { first_of netlist.now.instance question.order ≡ Some tuple.items }
+    ensures { IfOk result (IsReplyTo question netlist.now) }
 {
-    match accept(alloc, bytes, notion, model) {
-        Ok(netlist) => verdict(alloc, notion, model, &netlist),
+    proved_is_provable();
+    tuples_are_all();
+    let rank = netlist.counts.rank(&tuple);
+    let lines = probe_lines(alloc, netlist, &tuple)?;
+    let text = report::unproved(alloc, heading(question, netlist), rank, lines.as_slice())?;
+    Ok(Reply {
+        status: Status::Unproved(tuple),
+        text,
+    })
+}
+
+/// What is answered to a netlist that is accepted.
+fn verdict(alloc: Global, question: Question, netlist: &Accepted) -> Result<Reply, NoMemory>
+    requires kept { IsKept question.order netlist.now }
+    requires least { 1 ≤ question.order }
+    requires most { question.order ≤ 8 }
+    ensures { IfOk result (IsReplyTo question netlist.now) }
+{
+    match verify_one(alloc, &netlist.instance, &netlist.counts, question.order)? {
+        Verdict::Secure(closed) => secure(alloc, question, netlist, closed.as_slice().len()),
+        Verdict::Unproved(tuple) => unproved(alloc, question, netlist, tuple),
+    }
+}
+
+/// What is answered to the bytes of a netlist.
+pub fn verify(alloc: Global, question: Question, bytes: &[u8]) -> Result<Reply, NoMemory>
+    requires short { length bytes.now ≤ most_bytes }
+    requires least { 1 ≤ question.order }
+    requires most { question.order ≤ 8 }
+    ensures { IfOk result (λ reply. IsVerdict question.notion question.order question.model bytes.now
+        reply.status reply.text.items) }
+{
+    match accept(
+        alloc,
+        bytes,
+        question.notion,
+        question.order,
+        question.model,
+    ) {
+        Ok(netlist) => verdict(alloc, question, &netlist),
         Err(Stop::Refused(refusal)) => refused(alloc, refusal),
         Err(Stop::NoMemory) => Err(AllocError),
     }

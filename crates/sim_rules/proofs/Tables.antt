@@ -132,3 +132,11 @@ provable_is x table fitting probes groups probes_are groups_are tuple m answer o
     (subst (λ (rs : List ℕ). IsProvableOver x.table.nodes groups rs m) roots (over.0 h)))))
     (λ h. over.1 (subst (λ (rs : List ℕ). IsProvableOver x.table.nodes groups rs m) (sym roots)
     (subst (λ (gs : List (Option ℕ)). IsProvableOver x.table.nodes gs (roots_of x tuple) m) (sym groups_are) (same.1 (least.0 h)))))
+
+-- also where its lists were read from it
+pub fits_as_read : (x : Instance) → IsTable x.table → IsFitting x → (probes : List ProbeRoots) (groups : List (Option ℕ)) (chosen : List Bool) (rows : ℕ) → probes ≡ x.probes → groups ≡ x.groups
+    → length chosen ≡ length x.probes → rows ≡ length x.table.nodes → IsFittingOver x.table.nodes probes groups chosen rows
+fits_as_read x table fitting probes groups chosen rows probes_are groups_are flags made_for =
+    subst (λ (ps : List ProbeRoots). IsFittingOver x.table.nodes ps groups chosen rows) (sym probes_are)
+    (subst (λ (gs : List (Option ℕ)). IsFittingOver x.table.nodes x.probes gs chosen rows) (sym groups_are)
+    (subst (λ (n : ℕ). IsFittingOver x.table.nodes x.probes x.groups chosen n) (sym made_for) (table_fits x chosen table fitting flags)))

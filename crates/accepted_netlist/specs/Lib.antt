@@ -1,0 +1,3 @@
+pub mod Netlist
+pub mod Known
+pub mod Laws

@@ -1,0 +1,17 @@
+pub mod Walks
+pub mod Hulls
+pub mod Trees
+pub mod Search
+pub mod First
+pub mod Sums
+pub mod Balances
+pub mod Bounds
+pub mod Idle
+pub mod Cores
+pub mod Allowed
+pub mod Same
+pub mod Places
+pub mod Aside
+pub mod Halfway
+pub mod Stacks
+pub mod Verdicts

@@ -1,0 +1,9 @@
+pub mod Tree
+pub mod Search
+pub mod Balance
+pub mod Core
+pub mod Closings
+pub mod Preorder
+pub mod Work
+pub mod Verdict
+pub mod Answer

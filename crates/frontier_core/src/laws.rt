@@ -1,0 +1,44 @@
+//! What a reader and the crates above may want to know of the definitions. Each law is a contract over all
+//! instances and families; its body is empty.
+ghost use Rattle.std.specs.Prelude.{◌≡◌, ◌≤◌, [], ◌∷◌, ℕ, Bool, List, None, Some, length};
+ghost use Rattle.std.specs.List.{flat_map};
+ghost use Rattle.expr_table.specs.declared.instance.Instance.{Instance};
+ghost use Rattle.probe_family.specs.declared.family.Family.{Family};
+ghost use Rattle.probe_family.specs.Families.{IsFamily};
+ghost use Rattle.family_split.specs.Children.{children_of};
+ghost use Rattle.extend_set.specs.Hull.{hull_of};
+ghost use Rattle.frontier_core.specs.declared.event.Event.{Event};
+ghost use Rattle.frontier_core.specs.declared.verdict.Verdict.{Verdict};
+ghost use Rattle.frontier_core.specs.Answer.{IsFailedTuple, IsLeast, IsSameVerdict, IsSearchOf};
+ghost use Rattle.frontier_core.specs.Balance.{failed_ranks};
+ghost use Rattle.frontier_core.specs.Core.{CoreState, IsCoreOf, IsIdle, core_after_all, first_core};
+ghost use Rattle.frontier_core.specs.Tree.{closed_under, first_of, under};
+ghost use Rattle.frontier_core.specs.Verdict.{IsVerdict};
+
+/// A family that has a hull gives itself, closed under the hull, and then what its children give, in order.
+pub fn family_gives_itself_and_its_children()
+    ensures { (x : Instance) (family : Family) (hull : List Bool) → IsFamily (length x.probes) family
+        → hull_of x family ≡ Some hull
+        → under x family ≡ closed_under family hull ∷ flat_map (under x) (children_of family hull) }
+{}
+
+/// Whatever events happen to a core, in whatever order, it stays the core of its search.
+pub fn events_keep_the_search()
+    ensures begins { (x : Instance) (t workers : ℕ) → t ≤ 8 → IsCoreOf x t (first_core x t workers) }
+    ensures stays { (x : Instance) (t : ℕ) (core : CoreState) (events : List Event) → IsCoreOf x t core
+        → IsCoreOf x t (core_after_all x t core events) }
+{}
+
+/// An idle core tells the first tuple that is not proved: none, where no family failed, and else the least tuple of the
+/// family that failed with the least rank.
+pub fn idle_core_tells_the_first()
+    ensures none { (x : Instance) (t : ℕ) (core : CoreState) → IsSearchOf x t core → IsIdle core
+        → failed_ranks core.ended ≡ [] → first_of x t ≡ None }
+    ensures some { (x : Instance) (t : ℕ) (core : CoreState) (rank : ℕ) (tuple : List ℕ) → IsSearchOf x t core → IsIdle core
+        → IsLeast (failed_ranks core.ended) rank → IsFailedTuple core.ended rank tuple → first_of x t ≡ Some tuple }
+{}
+
+/// An instance and an order have one verdict.
+pub fn verdict_is_one()
+    ensures { (x : Instance) (t : ℕ) (a b : Verdict) → IsVerdict x t a → IsVerdict x t b → IsSameVerdict a b }
+{}

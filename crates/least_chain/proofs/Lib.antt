@@ -1,0 +1,4 @@
+pub mod Least
+pub mod Parents
+pub mod Waits
+pub mod Turns

@@ -1,0 +1,2 @@
+pub mod LeastFirst
+pub mod Waiting
