@@ -7,14 +7,17 @@ use Rattle.circuit_types.specs.declared.nets.Nets.{Nets}
 use Rattle.circuit_types.specs.Probes.{probe_at}
 use Rattle.expr_table.specs.declared.instance.Instance.{Instance}
 use Rattle.expr_table.specs.declared.instance.Notion.{Notion}
+use Rattle.expr_table.specs.declared.instance.Notion.TheVariants.{Probing}
 use Rattle.net_build.specs.Names.{printed_name}
-use Rattle.once_random.specs.Tuples.{is_proved}
+use Rattle.once_random.specs.Tuples.{is_proved, roots_of}
 use Rattle.tuple_rank.specs.Tuples.{IsTuple, TuplesAreAll}
 use Rattle.tuple_rank.proofs.Order.{contains_at, rank-at}
 use Rattle.frontier_core.specs.Tree.{first_of, tree_of}
+use Rattle.count_law.specs.Instances.{leaves_left}
+use Rattle.count_law.specs.Netlists.{IsSimulatableTuple, IsIndependentTuple, tuple_bound}
 use Rattle.accepted_netlist.specs.declared.netlist.Accepted.{Accepted}
 use Rattle.accepted_netlist.specs.Known.{Keeps}
-use Rattle.accepted_netlist.specs.Netlist.{probe_name}
+use Rattle.accepted_netlist.specs.Netlist.{Netlist, roles, circuit, probes, IsInstanceOf, probe_name}
 use Rattle.maskverif_cli.specs.Kept.{name_of_probe}
 use Rattle.maskverif_cli.specs.Report.{secure_report, unproved_report}
 use Rattle.maskverif_cli.specs.Verdict.{IsProvableTuple, IsSecure, IsUnproved, HasRank, tuples_of}
@@ -23,6 +26,22 @@ use Rattle.maskverif_cli.proofs.Finding.{IsFound, found, none-passes}
 -- a tuple is proved exactly where it is provable
 abbrev pub Decides : Instance → Type 0
 Decides x = (tuple : List ℕ) → IsTrue (is_proved x tuple) ↔ IsProvableTuple x tuple
+
+-- what a provable tuple observes is simulatable within its bound
+abbrev pub Simulates : Notion → Model → Netlist → Instance → Type 0
+Simulates notion model n x = (tuple : List ℕ) → IsProvableTuple x tuple
+    → IsSimulatableTuple notion model (roles n) (circuit n) tuple (leaves_left x (roots_of x tuple)) (tuple_bound notion (probes model n) tuple)
+
+-- where the instance is for probing security, what a provable tuple observes does not depend on the secrets
+abbrev pub Hides : Model → Netlist → Instance → Type 0
+Hides model n x = IsInstanceOf Probing model n x → (tuple : List ℕ) → IsProvableTuple x tuple
+    → IsIndependentTuple Probing model (roles n) (circuit n) tuple
+
+hides-under : (notion : Notion) (model : Model) (n : Netlist) (x : Instance) → Hides model n x → IsInstanceOf notion model n x → notion ≡ Probing
+    → (tuple : List ℕ) → IsProvableTuple x tuple → IsIndependentTuple notion model (roles n) (circuit n) tuple
+hides-under notion model n x hides instance is tuple provable =
+    subst (λ (m : Notion). IsInstanceOf m model n x → IsIndependentTuple m model (roles n) (circuit n) tuple) (sym is)
+    (λ has. hides has tuple provable) instance
 
 module _ (x : Instance) (order : ℕ) (decides : Decides x) where
   from-proved : (tuple : List ℕ) → not (is_proved x tuple) ≡ false → IsProvableTuple x tuple
@@ -55,13 +74,16 @@ module _ (notion : Notion) (order : ℕ) (model : Model) (bytes : List ℕ) (kep
   abbrev x : Instance
   x = kept.instance
 
-  pub secure-is : (families : ℕ) (text : List ℕ) → first_of x order ≡ None → families ≡ length (tree_of x order)
+  pub secure-is : Simulates notion model keeps.netlist x → Hides model keeps.netlist x → (families : ℕ) (text : List ℕ) → first_of x order ≡ None → families ≡ length (tree_of x order)
       → text ≡ secure_report notion order model (length x.probes) (length (tuples_of x order)) families → IsSecure notion order model bytes text
-  secure-is families text none counted written = record {
+  secure-is simulates hides families text none counted written = record {
     netlist = keeps.netlist;
     instance = x;
     means = record { accepted = keeps.accepted; instance = keeps.instance };
     all = all-provable x order decides none;
+    simulatable = λ tuple rank has. simulates tuple (all-provable x order decides none tuple rank has);
+    independent = λ is tuple rank has.
+        hides-under notion model keeps.netlist x hides keeps.instance is tuple (all-provable x order decides none tuple rank has);
     report = written ∙ ap (secure_report notion order model (length x.probes) (length (tuples_of x order))) counted;
   }
 

@@ -3,11 +3,14 @@ use Rattle.std.specs.Prelude.{ℕ, ◌≡◌, ◌<◌, List, length, map, slice_
 use Rattle.circuit_types.specs.declared.probes.Model.{Model}
 use Rattle.expr_table.specs.declared.instance.Instance.{Instance}
 use Rattle.expr_table.specs.declared.instance.Notion.{Notion}
+use Rattle.expr_table.specs.declared.instance.Notion.TheVariants.{Probing}
 use Rattle.once_random.specs.Provable.{IsProvable}
 use Rattle.once_random.specs.Tuples.{roots_of, bound_of}
 use Rattle.tuple_rank.specs.Tuples.{tuples}
 use Rattle.frontier_core.specs.Tree.{tree_of}
-use Rattle.accepted_netlist.specs.Netlist.{Netlist, IsAcceptedAs, IsInstanceOf, probe_name}
+use Rattle.count_law.specs.Instances.{leaves_left}
+use Rattle.count_law.specs.Netlists.{IsSimulatableTuple, IsIndependentTuple, tuple_bound}
+use Rattle.accepted_netlist.specs.Netlist.{Netlist, roles, circuit, probes, IsAcceptedAs, IsInstanceOf, probe_name}
 use Rattle.maskverif_cli.specs.Report.{secure_report, unproved_report}
 
 -- some chain for the tuple's roots leaves its leaves within its bound
@@ -27,13 +30,21 @@ pub record Means (notion : Notion) (order : ℕ) (model : Model) (bytes : List �
   pub accepted : IsAcceptedAs notion order model bytes n
   pub instance : IsInstanceOf notion model n x
 
--- Each tuple is provable, and this is the report on it: with how many probes, tuples and families of the proof tree there
--- are.
+-- Each tuple of at most as many probes as the order is provable, so what it observes is simulatable within its bound and,
+-- under probing security, does not depend on the secrets. This is the report on it: with how many probes, tuples and
+-- families of the proof tree there are.
 pub record IsSecure (notion : Notion) (order : ℕ) (model : Model) (bytes text : List ℕ) : Type 0 where
   pub netlist : Netlist
   pub instance : Instance
   pub means : Means notion order model bytes netlist instance
   pub all : (tuple : List ℕ) (rank : ℕ) → HasRank instance order tuple rank → IsProvableTuple instance tuple
+  -- what each tuple observes is simulatable within its bound, from the leaves that its least chain leaves live
+  pub simulatable : (tuple : List ℕ) (rank : ℕ) → HasRank instance order tuple rank
+      → IsSimulatableTuple notion model (roles netlist) (circuit netlist) tuple (leaves_left instance (roots_of instance tuple))
+      (tuple_bound notion (probes model netlist) tuple)
+  -- for probing security, what each tuple observes does not depend on the secrets
+  pub independent : notion ≡ Probing → (tuple : List ℕ) (rank : ℕ) → HasRank instance order tuple rank
+      → IsIndependentTuple notion model (roles netlist) (circuit netlist) tuple
   pub report : text
       ≡ secure_report notion order model (length instance.probes) (length (tuples_of instance order)) (length (tree_of instance order))
 

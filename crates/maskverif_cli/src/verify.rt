@@ -16,6 +16,7 @@ use crate::status::Status;
 use crate::words::Question;
 use accepted_netlist::{Accepted, accept};
 use circuit_types::{Refusal, Stop};
+use count_law::soundness;
 use once_random::proved_is_provable;
 use sequences::NoMemory;
 use std::alloc::{AllocError, Global};
@@ -66,6 +67,7 @@ fn secure(
     ensures { IfOk result (IsReplyTo question netlist.now) }
 {
     proved_is_provable();
+    soundness();
     let text = report::secure(alloc, heading(question, netlist), families)?;
     Ok(Reply {
         status: Status::Secure,
