@@ -1,29 +1,26 @@
 -- When events are allowed, as the code finds out, and what is left of them to show.
-use Rattle.std.proofs.Common.{◌≡◌, ℕ, ◌<◌, ◌≤◌, Bool, true, false, not, ◌&&◌, ◌||◌, cond, nat_le, eqb, List, [], ◌∷◌, ◌++◌, length, get_or, refl, sym, ap, ◌∙◌, subst, arith, Option, None, Some, Ok, Err, Result, All, ⊎_elim, is_none, is_some, unwrap_or, ◌↔◌}
-use Rattle.std.proofs.lemmas.Bool.{cases_Bool, true≢false, and_parts, and_from, and_right, and_left, le-leb, lt-leb, cond-true, cond-false}
+use Rattle.std.proofs.Common.{◌≡◌, ℕ, ◌<◌, ◌≤◌, Bool, true, false, not, ◌&&◌, ◌||◌, nat_le, eqb, List, [], ◌∷◌, refl, sym, ap, ◌∙◌, subst, Option, None, Some, Ok, Err, Result, All, is_none, is_some, ◌↔◌}
+use Rattle.std.proofs.lemmas.Bool.{true≢false, and_parts, and_from, and_right, and_left, le-leb, lt-leb, cond-true, cond-false}
 use Rattle.std.proofs.lemmas.List.Elements.{All-from_recursion, recursion_from_All}
 use Rattle.std.specs.List.{list_all, list_any, AllByRecursion}
 use Rattle.std.specs.Option.{option_map_or, IfSome}
 use Rattle.std.specs.Result.{OnOk, OnErr}
 use Rattle.expr_table.specs.declared.instance.Instance.{Instance}
 use Rattle.expr_table.specs.Table.{has}
-use Rattle.tuple_rank.specs.Tuples.{IsTuple, rank_of}
+use Rattle.tuple_rank.specs.Tuples.{IsTuple}
 use Rattle.probe_family.specs.declared.ending.Ending.{Ending}
-use Rattle.probe_family.specs.declared.ending.Ending.TheVariants as ending
 use Rattle.probe_family.specs.declared.family.Family.{Family}
 use Rattle.probe_family.specs.Families.{IsFamily}
 use Rattle.probe_family.specs.Least.{least_of}
 use Rattle.probe_family.proofs.AllTuples.{least_is_tuple, tuple_of_is_tuple}
-use Rattle.extend_set.specs.Hull.{hull_of, is_provable_within}
+use Rattle.extend_set.specs.Hull.{hull_of}
 use Rattle.frontier_core.specs.declared.event.Event.{Event}
-use Rattle.frontier_core.specs.declared.event.Event.TheVariants.{Take, Proved, Failed, Beyond}
-use Rattle.frontier_core.specs.declared.event.Stepped.{Stepped}
+use Rattle.frontier_core.specs.declared.event.Event.TheVariants.{Proved, Failed, Beyond}
 use Rattle.frontier_core.specs.declared.event.Stepped.TheVariants.{Done, NotAllowed}
 use Rattle.frontier_core.specs.Balance.{failed_ranks}
 use Rattle.frontier_core.specs.Core.{CoreState, IsCoreOf, after, answer_to, core_after, held_by, holds_one, is_allowed, is_least_provable, with_end, with_its_end}
-use Rattle.frontier_core.specs.Search.{IsSearched, least_rank}
-use Rattle.frontier_core.proofs.Bounds.{all_are_searched}
-use Rattle.frontier_core.proofs.Cores.{event_keeps, held_is_family, held_is_searched}
+use Rattle.frontier_core.specs.Search.{least_rank}
+use Rattle.frontier_core.proofs.Cores.{event_keeps}
 use Rattle.frontier_core.proofs.Hulls.{hull_provable, no_hull}
 
 -- the least tuple of a family is a tuple of its numbers

@@ -1,5 +1,5 @@
 -- Closed families that were put aside in a map under their least tuples.
-use Rattle.std.proofs.Common.{◌≡◌, ℕ, zero, suc, ◌+◌, ◌<◌, ◌≤◌, Bool, true, false, cond, List, [], ◌∷◌, ◌++◌, length, map, refl, sym, ap, ◌∙◌, subst, arith, Option, None, Some, All, count_by, sum_by, ⊎_elim}
+use Rattle.std.proofs.Common.{◌≡◌, ℕ, zero, suc, Bool, true, false, cond, List, [], ◌∷◌, ◌++◌, refl, sym, ap, ◌∙◌, subst, arith, Option, None, Some, All, sum_by, ⊎_elim}
 use Rattle.std.proofs.lemmas.Bool.{cases_Bool, cond-true, cond-false, true≢false}
 use Rattle.std.proofs.lemmas.Cmp.{nat_list_cmp_total, on_total}
 use Rattle.std.proofs.lemmas.List.Elements.{All-from_recursion, recursion_from_All}
@@ -26,7 +26,7 @@ use Rattle.probe_family.proofs.Bits.{one_if}
 use Rattle.probe_family.proofs.Ranges.{append_All}
 use Rattle.frontier_core.specs.Closings.{AreApart, IsSmall, TakesOut}
 use Rattle.frontier_core.proofs.Bounds.{first_All}
-use Rattle.frontier_core.proofs.Places.{at_All, counted_at, get-left, one_place, place_of_one}
+use Rattle.frontier_core.proofs.Places.{at_All, counted_at, get-left, one_place}
 use Rattle.frontier_core.proofs.Same.{family_equal, family_itself, same_family}
 use Rattle.frontier_core.proofs.Sums.{sum-zero}
 

@@ -1,13 +1,10 @@
 -- A family that ends right keeps the balance.
-use Rattle.std.proofs.Common.{◌≡◌, ℕ, ◌+◌, ◌≤◌, Bool, true, ◌||◌, eqb, List, [], ◌∷◌, ◌++◌, length, map, refl, sym, ap, ◌∙◌, subst, arith, sum_by, All, ⊎_elim}
-use Rattle.std.proofs.lemmas.Bool.{or_cases}
+use Rattle.std.proofs.Common.{◌≡◌, ℕ, ◌+◌, List, [], ◌∷◌, ◌++◌, length, sym, ap, ◌∙◌, subst, arith, sum_by, All}
 use Rattle.std.proofs.lemmas.List.{append-nil, map-append}
 use Rattle.std.proofs.lemmas.List.Concat.{flat_map-append}
-use Rattle.std.proofs.lemmas.List.Elements.{All-append, All-weaker, All-nil, All-cons, All-from_recursion, recursion_from_All}
+use Rattle.std.proofs.lemmas.List.Elements.{All-append, All-weaker, All-nil, All-cons}
 use Rattle.std.proofs.lemmas.List.Sums.{sum_by-append, sum_by-cons}
-use Rattle.std.specs.List.{flat_map, AllByRecursion}
 use Rattle.expr_table.specs.declared.instance.Instance.{Instance}
-use Rattle.expr_table.specs.Table.{has}
 use Rattle.once_random.proofs.Facts.{has-append_left}
 use Rattle.probe_family.specs.declared.ending.Ended.{Ended}
 use Rattle.probe_family.specs.declared.ending.Ending.{Ending}
@@ -15,7 +12,6 @@ use Rattle.probe_family.specs.declared.ending.Ending.TheVariants.{Proved, Failed
 use Rattle.probe_family.specs.declared.family.Family.{Family}
 use Rattle.probe_family.specs.Families.{IsFamily}
 use Rattle.probe_family.specs.Roots.{roots_of}
-use Rattle.probe_family.proofs.Ranges.{append_All}
 use Rattle.frontier_core.specs.Balance.{AsOften, Balanced, EndsRight, failed_rank, failed_ranks, families_of, given_by, given_of}
 
 -- the family with its ending

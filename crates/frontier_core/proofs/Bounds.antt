@@ -1,7 +1,7 @@
 -- What holds of the roots, and of the children of each family of which it holds, holds of every family of a balanced
 -- search: the families that are ended or wait are those that a search may have.
 use Rattle.std.proofs.Common.{◌≡◌, ℕ, zero, suc, ◌+◌, ◌<◌, ◌≤◌, Bool, true, false, not, ◌&&◌, ◌||◌, eqb, nat_le, nat_lt, List, [], ◌∷◌, ◌++◌, length, map, refl, sym, ap, ◌∙◌, arith, sum_by, Some, ⊎_elim, inl, inr, ◌⊎◌}
-use Rattle.std.proofs.lemmas.Bool.{cases_Bool, true≢false, eq-eqb, eqb-true, le-leb, leb-true, le-ltb, ltb-false, lt-ltb, or_cases}
+use Rattle.std.proofs.lemmas.Bool.{true≢false, eq-eqb, eqb-true, le-leb, leb-true, le-ltb, ltb-false, or_cases}
 use Rattle.std.proofs.lemmas.List.Elements.{recursion_from_All}
 use Rattle.std.proofs.lemmas.List.Sums.{sum_by-append}
 use Rattle.std.specs.List.{AllByRecursion}
@@ -14,7 +14,7 @@ use Rattle.probe_family.specs.declared.family.Family.{Family}
 use Rattle.probe_family.specs.Families.{IsFamily, is_tuple_of, weight_of}
 use Rattle.probe_family.specs.Roots.{roots_of}
 use Rattle.probe_family.proofs.Bits.{one_if}
-use Rattle.probe_family.proofs.Ranges.{append_All, weaken_All}
+use Rattle.probe_family.proofs.Ranges.{weaken_All}
 use Rattle.probe_family.proofs.RootTuples.{each_bound, each_size}
 use Rattle.family_split.specs.Children.{children_of}
 use Rattle.family_split.proofs.Fewer.{children_are_lighter}

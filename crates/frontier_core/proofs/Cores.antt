@@ -1,6 +1,6 @@
 -- What the events of a core keep.
-use Rattle.std.proofs.Common.{◌≡◌, ℕ, zero, suc, ◌+◌, ◌<◌, ◌≤◌, Bool, true, false, not, ◌&&◌, cond, nat_le, nat_lt, List, [], ◌∷◌, ◌++◌, length, get_or, set, take, drop, replicate, map, fold, refl, sym, ap, ◌∙◌, subst, arith, sum_by, Option, None, Some, All, ⊎_elim, is_none, unwrap_or}
-use Rattle.std.proofs.lemmas.Bool.{cases_Bool, true≢false, and_parts, leb-true, ltb-true, not-true}
+use Rattle.std.proofs.Common.{◌≡◌, ℕ, zero, suc, ◌+◌, ◌<◌, ◌≤◌, Bool, true, false, not, ◌&&◌, cond, nat_le, nat_lt, List, [], ◌∷◌, ◌++◌, length, get_or, set, take, drop, replicate, refl, sym, ap, ◌∙◌, subst, arith, sum_by, Option, None, Some, ⊎_elim, is_none, unwrap_or}
+use Rattle.std.proofs.lemmas.Bool.{true≢false, and_parts, leb-true, ltb-true, not-true}
 use Rattle.std.proofs.lemmas.List.{append-nil}
 use Rattle.std.proofs.lemmas.List.Elements.{All-from_recursion, recursion_from_All}
 use Rattle.std.proofs.lemmas.List.Sums.{sum_by-append, sum_by-cons, sum_by-remove, sum_by-set}
@@ -18,11 +18,11 @@ use Rattle.probe_family.specs.Roots.{roots_of}
 use Rattle.probe_family.proofs.Ranges.{append_All}
 use Rattle.probe_family.proofs.RootTuples.{each_root}
 use Rattle.family_split.proofs.Partition.{children_are}
-use Rattle.extend_set.specs.Hull.{hull_of, is_provable_within}
+use Rattle.extend_set.specs.Hull.{hull_of}
 use Rattle.frontier_core.specs.declared.event.Event.{Event}
 use Rattle.frontier_core.specs.declared.event.Event.TheVariants.{Take, Proved, Failed, Beyond}
-use Rattle.frontier_core.specs.Balance.{Balanced, EndsRight, failed_ranks, families_of, given_by, given_of}
-use Rattle.frontier_core.specs.Core.{CoreState, IsCoreOf, IsIdle, after, core_after, core_after_all, core_with, first_core, held_by, is_allowed, is_least_provable, waiting_in, with_end, with_its_end}
+use Rattle.frontier_core.specs.Balance.{Balanced, EndsRight, failed_ranks, families_of, given_by}
+use Rattle.frontier_core.specs.Core.{CoreState, IsCoreOf, IsIdle, after, core_after, core_after_all, core_with, held_by, is_allowed, is_least_provable, waiting_in, with_end, with_its_end}
 use Rattle.frontier_core.specs.Search.{IsSearched, least_rank}
 use Rattle.frontier_core.proofs.Balances.{end_keeps, ended_so, waiting_moves}
 use Rattle.frontier_core.proofs.Bounds.{all_are_searched, first_All}

@@ -1,24 +1,23 @@
 -- How far the families of a search are put in preorder.
-use Rattle.std.proofs.Common.{◌≡◌, ℕ, zero, suc, ◌+◌, ◌<◌, ◌≤◌, Bool, true, false, not, ◌&&◌, List, [], ◌∷◌, ◌++◌, length, map, reverse, refl, sym, ap, ◌∙◌, subst, arith, Some, count_by, sum_by, All, Any, ⊎_elim, append_assoc}
+use Rattle.std.proofs.Common.{◌≡◌, ℕ, ◌+◌, ◌<◌, ◌≤◌, Bool, true, false, not, ◌&&◌, List, [], ◌∷◌, ◌++◌, length, map, reverse, refl, sym, ap, ◌∙◌, subst, arith, Some, count_by, sum_by, All, Any, ⊎_elim, append_assoc}
 use Rattle.std.proofs.lemmas.Bool.{and_from, cases_lt, true≢false}
 use Rattle.std.proofs.lemmas.List.{append-nil}
 use Rattle.std.proofs.lemmas.List.Concat.{flat_map-append}
 use Rattle.std.proofs.lemmas.List.Elements.{All-from_recursion, recursion_from_All}
-use Rattle.std.proofs.lemmas.List.Sums.{sum_by-append, sum_by-cons, sum_by-le-sum_by}
+use Rattle.std.proofs.lemmas.List.Sums.{sum_by-append, sum_by-cons}
 use Rattle.std.proofs.lemmas.Option.{get_or_from_slice_get, slice_get_within}
 use Rattle.std.specs.Cmp.Lexicographic.{bytes_decides}
-use Rattle.std.specs.List.{flat_map, list_all, slice_get, AllByRecursion}
+use Rattle.std.specs.List.{flat_map, list_all, AllByRecursion}
 use Rattle.std.specs.Str.{bytes_eq}
 use Rattle.bit_rows.specs.Sets.{is_in}
 use Rattle.expr_table.specs.declared.instance.Instance.{Instance}
-use Rattle.expr_table.specs.Table.{has}
 use Rattle.tuple_rank.specs.Tuples.{IsTuple}
 use Rattle.probe_family.specs.declared.ending.Closed.{Closed}
 use Rattle.probe_family.specs.declared.ending.Ended.{Ended}
 use Rattle.probe_family.specs.declared.ending.Ending.{Ending}
 use Rattle.probe_family.specs.declared.ending.Ending.TheVariants.{Proved, Failed, Beyond}
 use Rattle.probe_family.specs.declared.family.Family.{Family}
-use Rattle.probe_family.specs.Families.{IsFamily, is_tuple_of, total_take}
+use Rattle.probe_family.specs.Families.{IsFamily, is_tuple_of}
 use Rattle.probe_family.specs.Least.{least_of}
 use Rattle.probe_family.specs.Roots.{roots_of}
 use Rattle.probe_family.proofs.AllTuples.{least_is_tuple}
@@ -28,14 +27,14 @@ use Rattle.probe_family.proofs.RootTuples.{in_one_root}
 use Rattle.family_split.specs.Children.{children_of}
 use Rattle.family_split.proofs.Partition.{count_children}
 use Rattle.extend_set.specs.Hull.{hull_of}
-use Rattle.frontier_core.specs.Balance.{Balanced, EndsRight, failed_rank, failed_ranks, families_of, given_by, given_of}
+use Rattle.frontier_core.specs.Balance.{EndsRight, failed_rank, failed_ranks, families_of, given_by, given_of}
 use Rattle.frontier_core.specs.Closings.{AreApart, IsSmall, TakesOut, closing_of, closings_of}
 use Rattle.frontier_core.specs.Preorder.{IsWhole}
 use Rattle.frontier_core.specs.Search.{IsSearched}
-use Rattle.frontier_core.specs.Tree.{closed_under, tree_of, under}
+use Rattle.frontier_core.specs.Tree.{tree_of, under}
 use Rattle.frontier_core.proofs.Bounds.{all_are_searched, first_All, mapped_All}
 use Rattle.frontier_core.proofs.Hulls.{hull_least, hull_length}
-use Rattle.frontier_core.proofs.Places.{All_at, at_All, counted_at, fewer_All, place_of_one}
+use Rattle.frontier_core.proofs.Places.{at_All, fewer_All, place_of_one}
 use Rattle.frontier_core.proofs.Same.{closed_equal, closed_itself, family_equal, family_itself, same_closed, same_family}
 use Rattle.frontier_core.proofs.Search.{children_are_searched, least_is_tuple_of, roots_are_searched}
 use Rattle.frontier_core.proofs.Sums.{sum-flat_map, sum-map, sum-ones, sum-plus, sum-reverse, sum-same}

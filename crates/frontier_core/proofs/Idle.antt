@@ -1,7 +1,6 @@
 -- What the ended families of a balanced search say once no family waits.
-use Rattle.std.proofs.Common.{◌≡◌, ℕ, ◌+◌, ◌<◌, ◌≤◌, Bool, true, false, not, ◌&&◌, ◌||◌, List, [], ◌∷◌, ◌++◌, length, map, refl, sym, ap, ◌∙◌, subst, arith, sum_by, None, Some, ⊎_elim}
+use Rattle.std.proofs.Common.{◌≡◌, ℕ, ◌<◌, ◌≤◌, Bool, true, false, not, ◌&&◌, List, [], ◌∷◌, length, refl, sym, ap, ◌∙◌, subst, arith, sum_by, None, Some, ⊎_elim}
 use Rattle.std.proofs.lemmas.Bool.{cases_Bool, cases_lt, true≢false}
-use Rattle.std.proofs.lemmas.List.{append-nil}
 use Rattle.std.proofs.lemmas.List.Elements.{recursion_from_All}
 use Rattle.std.proofs.lemmas.List.Sums.{sum_by-append}
 use Rattle.std.specs.List.{list_all, AllByRecursion}
@@ -22,7 +21,6 @@ use Rattle.probe_family.specs.Roots.{roots_of}
 use Rattle.probe_family.proofs.AllTuples.{least_is_tuple}
 use Rattle.probe_family.proofs.Bits.{one_if}
 use Rattle.probe_family.proofs.RootTuples.{in_one_root}
-use Rattle.family_split.specs.Children.{children_of}
 use Rattle.family_split.proofs.Partition.{count_children}
 use Rattle.frontier_core.specs.Balance.{Balanced, EndsRight, failed_rank, failed_ranks, families_of, given_by, given_of}
 use Rattle.frontier_core.specs.Search.{IsSearched, least_rank}

@@ -15,3 +15,6 @@ pub mod Aside
 pub mod Halfway
 pub mod Stacks
 pub mod Verdicts
+pub mod Turns
+pub mod Moving
+pub mod Whole

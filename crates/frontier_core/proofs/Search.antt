@@ -1,5 +1,5 @@
 -- What the families of a search hand on to their children, and where their tuples are.
-use Rattle.std.proofs.Common.{◌≡◌, ℕ, ◌≤◌, Bool, true, false, ◌&&◌, ◌||◌, not, List, [], ◌∷◌, length, refl, sym, ap, ◌∙◌, arith, None, Some, ⊎_elim, count_by}
+use Rattle.std.proofs.Common.{◌≡◌, ℕ, ◌≤◌, Bool, true, false, ◌&&◌, ◌||◌, not, List, [], ◌∷◌, length, sym, ap, ◌∙◌, arith, None, Some, ⊎_elim, count_by}
 use Rattle.std.proofs.lemmas.Bool.{cases_Bool, true≢false}
 use Rattle.std.specs.List.{list_all, list_any, AllByRecursion}
 use Rattle.bit_rows.specs.Sets.{is_in}

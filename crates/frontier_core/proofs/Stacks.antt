@@ -1,14 +1,11 @@
 -- Stacks from the top down, and how many families a search of them goes through.
-use Rattle.std.proofs.Common.{◌≡◌, ℕ, ◌+◌, ◌<◌, List, [], ◌∷◌, ◌++◌, length, reverse, refl, sym, ap, ◌∙◌, arith, Option, None, Some, append_assoc}
+use Rattle.std.proofs.Common.{◌≡◌, ℕ, ◌<◌, List, [], ◌∷◌, ◌++◌, length, reverse, ap, arith}
 use Rattle.std.proofs.lemmas.List.{reverse-append, length-append}
 use Rattle.std.proofs.lemmas.List.Concat.{flat_map-append}
 use Rattle.std.specs.List.{flat_map}
 use Rattle.expr_table.specs.declared.instance.Instance.{Instance}
 use Rattle.probe_family.specs.declared.family.Family.{Family}
 use Rattle.probe_family.specs.Families.{IsFamily}
-use Rattle.family_split.specs.Children.{children_of}
-use Rattle.extend_set.specs.Hull.{hull_of}
-use Rattle.frontier_core.specs.Search.{IsSearched}
 use Rattle.frontier_core.proofs.Trees.{next_of, visits, visits_on}
 
 -- the last of a list is on top

@@ -1,34 +1,44 @@
 -- The verdict of an idle core.
-use Rattle.std.proofs.Common.{◌≡◌, ℕ, ◌+◌, ◌<◌, ◌≤◌, Bool, true, false, ◌||◌, min, List, [], ◌∷◌, ◌++◌, length, take, get_or, refl, sym, ap, ◌∙◌, subst, arith, None, Some, All, ⊎_elim}
-use Rattle.std.proofs.lemmas.Bool.{cases_lt, eqb-true, or_cases, true≢false}
+use Rattle.std.proofs.Common.{◌≡◌, ℕ, zero, suc, ◌+◌, ◌<◌, ◌≤◌, Bool, true, false, ◌||◌, eqb, min, List, [], ◌∷◌, ◌++◌, length, take, get_or, refl, sym, ap, ◌∙◌, subst, arith, None, Some, All, ⊎_elim}
+use Rattle.std.proofs.lemmas.Bool.{cases_lt, eq-eqb, eqb-true, or_cases, true≢false}
 use Rattle.std.proofs.lemmas.List.{append-nil, get_or_default, take_more}
 use Rattle.std.proofs.lemmas.List.Concat.{flat_map-append}
 use Rattle.std.proofs.lemmas.List.Elements.{All-from_recursion, recursion_from_All}
 use Rattle.std.proofs.lemmas.Option.{same_Some}
-use Rattle.std.specs.List.{flat_map, slice_get, AllByRecursion}
 use Rattle.expr_table.specs.declared.instance.Instance.{Instance}
-use Rattle.expr_table.specs.Table.{has}
+use Rattle.expr_table.specs.Instance.{IsFitting}
+use Rattle.expr_table.specs.Table.{IsTable, has}
 use Rattle.once_random.proofs.Facts.{has-++}
 use Rattle.probe_family.specs.declared.ending.Ended.{Ended}
 use Rattle.probe_family.specs.declared.ending.Ending.{Ending}
 use Rattle.probe_family.specs.declared.ending.Ending.TheVariants.{Proved, Failed, Beyond}
-use Rattle.probe_family.specs.declared.family.Family.{Family}
 use Rattle.probe_family.specs.Families.{total_take}
-use Rattle.probe_family.specs.Least.{least_of}
+use Rattle.probe_family.specs.Roots.{roots_of}
 use Rattle.probe_family.proofs.Ranges.{weaken_All}
+use Rattle.frontier_core.specs.declared.event.Event.{Event}
 use Rattle.frontier_core.specs.declared.verdict.Verdict.{Verdict}
 use Rattle.frontier_core.specs.declared.verdict.Verdict.TheVariants.{Secure, Unproved}
 use Rattle.frontier_core.specs.Answer.{IsFailedTuple, IsLeast, IsSameVerdict, IsSearchOf}
-use Rattle.frontier_core.specs.Balance.{Balanced, EndsRight, failed_rank, failed_ranks}
-use Rattle.frontier_core.specs.Core.{CoreState, IsCoreOf, IsIdle}
+use Rattle.frontier_core.specs.Balance.{AsOften, Balanced, EndsRight, failed_rank, failed_ranks}
+use Rattle.frontier_core.specs.Closings.{closings_of}
+use Rattle.frontier_core.specs.Core.{CoreState, IsIdle, core_after_all, first_core}
 use Rattle.frontier_core.specs.Preorder.{IsWhole}
 use Rattle.frontier_core.specs.Search.{IsSearched}
-use Rattle.frontier_core.specs.Tree.{first_of}
+use Rattle.frontier_core.specs.Tree.{first_of, tree_of}
 use Rattle.frontier_core.specs.Verdict.{IsVerdict}
-use Rattle.frontier_core.proofs.Cores.{idle_waits}
-use Rattle.frontier_core.proofs.Hulls.{has_at}
+use Rattle.frontier_core.proofs.Cores.{core_begins, events_keep, idle_waits, roots_balance}
 use Rattle.frontier_core.proofs.Idle.{ended_are_searched, least_failed, none_failed}
 use Rattle.frontier_core.proofs.Places.{at_All, place_from_get_or}
+use Rattle.frontier_core.proofs.Whole.{closes_tree}
+
+has_at : (xs : List ℕ) (i k : ℕ) → k < length xs → get_or xs k i ≡ i → has xs i ≡ true
+has_at [] i k lt e = absurd (omega arith)
+has_at (x ∷ xs) i zero lt e = ap (λ b. b || has xs i) (eq-eqb x i e)
+has_at (x ∷ xs) i (suc k) lt e = or_right (eqb x i) (has xs i) (has_at xs i k (omega arith) e)
+  where
+    or_right : (a b : Bool) → b ≡ true → (a || b) ≡ true
+    or_right true b is = refl
+    or_right false b is = is
 
 -- one more rank is looked at
 pub least_more : (ranks : List ℕ) (i least : ℕ) → i < length ranks → has ranks least ≡ true → ((other : ℕ) → has (take i ranks) other ≡ true → least ≤ other)
@@ -85,6 +95,16 @@ module _ (x : Instance) (t : ℕ) (core : CoreState) (search : IsSearchOf x t co
       All-from_recursion (λ (e : Ended). total_take e.family.parts ≤ 8) core.ended
       (weaken_All (λ (e : Ended). IsSearched x t e.family) (λ (e : Ended). total_take e.family.parts ≤ 8) (λ e is. let size = is.rules.size in let small = is.rules.small in omega arith) core.ended
       (ended_are_searched x t search.table search.fitting core.ended ends_balanced))
+
+  pub tree_closed : failed_ranks core.ended ≡ [] → AsOften (closings_of core.ended) (tree_of x t)
+  tree_closed none = closes_tree x t core.ended ends_balanced none
+
+-- whatever happens to the core of a search, it stays that
+pub search_begins : (x : Instance) (t workers : ℕ) → IsTable x.table → IsFitting x → t ≤ 8 → IsSearchOf x t (first_core x t workers)
+search_begins x t workers table fitting few = record { table = table; fitting = fitting; few = few; core_is = core_begins x t workers (roots_of x t) [] (roots_balance x t few) }
+
+pub search_stays : (x : Instance) (t : ℕ) (core : CoreState) (events : List Event) → IsSearchOf x t core → IsSearchOf x t (core_after_all x t core events)
+search_stays x t core events search = record { table = search.table; fitting = search.fitting; few = search.few; core_is = events_keep x t core events search.core_is }
 
 -- there is one verdict
 pub one_verdict : (x : Instance) (t : ℕ) (a b : Verdict) → IsVerdict x t a → IsVerdict x t b → IsSameVerdict a b

@@ -1,5 +1,5 @@
 -- The verdict of a core whose search is over.
-use Rattle.std.specs.Prelude.{ℕ, ◌≡◌, ◌≤◌, IsTrue, IsFalse, List, Any}
+use Rattle.std.specs.Prelude.{ℕ, ◌≡◌, ◌≤◌, IsTrue, List, Any}
 use Rattle.expr_table.specs.declared.instance.Instance.{Instance}
 use Rattle.expr_table.specs.Instance.{IsFitting}
 use Rattle.expr_table.specs.Table.{IsTable, has}
@@ -8,7 +8,6 @@ use Rattle.probe_family.specs.declared.ending.Ending.TheVariants.{Failed}
 use Rattle.probe_family.specs.Least.{least_of}
 use Rattle.frontier_core.specs.declared.verdict.Verdict.{Verdict}
 use Rattle.frontier_core.specs.declared.verdict.Verdict.TheVariants.{Secure, Unproved}
-use Rattle.frontier_core.specs.Balance.{failed_ranks}
 use Rattle.frontier_core.specs.Core.{CoreState, IsCoreOf}
 
 -- the least of the ranks

@@ -1,6 +1,6 @@
 -- The core of a search: its state, the events that it allows, and what each does.
-use Rattle.std.specs.Prelude.{ℕ, ◌≡◌, ◌≤◌, ◌&&◌, nat_le, nat_lt, not, is_none, if◌then◌else◌, Bool, false, Option, None, IsTrue, List, [], ◌∷◌, ◌++◌, All, length, fold, remove, replicate, slice_get, slice_index_or, slice_set, unwrap_or}
-use Rattle.std.specs.List.{flat_map, list_all}
+use Rattle.std.specs.Prelude.{ℕ, ◌≡◌, ◌&&◌, nat_le, nat_lt, not, is_none, if◌then◌else◌, Bool, false, Option, None, List, [], ◌∷◌, ◌++◌, All, length, fold, remove, replicate, slice_get, slice_index_or, slice_set, unwrap_or}
+use Rattle.std.specs.List.{flat_map}
 use Rattle.std.specs.Option.{option_map_or, option_to_list}
 use Rattle.expr_table.specs.declared.instance.Instance.{Instance}
 use Rattle.expr_table.specs.Table.{has}

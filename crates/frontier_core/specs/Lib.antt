@@ -5,5 +5,6 @@ pub mod Core
 pub mod Closings
 pub mod Preorder
 pub mod Work
+pub mod Schedule
 pub mod Verdict
 pub mod Answer

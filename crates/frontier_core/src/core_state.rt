@@ -1,10 +1,9 @@
 //! The core: which families are open, which are held, and how others ended.
-ghost use Rattle.std.specs.Prelude.{◌≡◌, ◌≤◌, ◌++◌, ◌↔◌, IsTrue, IfOk, None, is_none, length, replicate};
+ghost use Rattle.std.specs.Prelude.{◌≡◌, ◌≤◌, ◌↔◌, IsTrue, IfOk, None, is_none, replicate};
 ghost use Rattle.std.specs.List.{list_all};
 ghost use Rattle.expr_table.specs.Instance.{IsFitting};
-ghost use Rattle.probe_family.specs.Roots.{roots_of};
 ghost use Rattle.frontier_core.specs.Balance.{Balanced, failed_ranks};
-ghost use Rattle.frontier_core.specs.Core.{CoreState, IsCoreOf, IsIdle, core_with, first_core};
+ghost use Rattle.frontier_core.specs.Core.{IsCoreOf, IsIdle, core_with, first_core};
 
 use expr_table::Instance;
 use probe_family::{Ended, Ending, Family, NoMemory, roots};
@@ -15,7 +14,7 @@ use std::marker::Model;
 #[derive(Drop)]
 pub struct Core {
     pub(crate) roots: Vec<Family>,
-    pub(crate) open: Vec<Family>,
+    pub(crate) open_families: Vec<Family>,
     /// For each worker the family that it holds.
     pub(crate) held: Vec<Option<Family>>,
     pub(crate) ended: Vec<Ended>,
@@ -32,7 +31,7 @@ impl Model for Core {
 
     ghost view = { λ c. record {
       roots = c.roots.items;
-      open_families = c.open.items;
+      open_families = c.open_families.items;
       held = c.held.items;
       ended = c.ended.items;
     } };
@@ -96,11 +95,11 @@ impl Core {
         ensures balanced { IfOk result (IsCoreOf instance.now order) }
     {
         let roots = roots(alloc, instance, order)?;
-        let open = copy_all(alloc, &roots)?;
+        let open_families = copy_all(alloc, &roots)?;
         let held = hold_nothing(alloc, workers)?;
         Ok(Core {
             roots,
-            open,
+            open_families,
             held,
             ended: Vec::new(alloc),
             failed: Vec::new(alloc),
@@ -128,7 +127,7 @@ impl Core {
         let failed = ranks_of(alloc, &ended)?;
         Ok(Core {
             roots,
-            open: waiting,
+            open_families: waiting,
             held,
             ended,
             failed,
@@ -139,6 +138,6 @@ impl Core {
     pub fn idle(&self) -> bool
         ensures { IsTrue result ↔ IsIdle self.now }
     {
-        self.open.is_empty() && hold_none(&self.held)
+        self.open_families.is_empty() && hold_none(&self.held)
     }
 }

@@ -3,6 +3,8 @@
 ghost use Rattle.std.specs.Prelude.{◌≡◌, ◌≤◌, [], ◌∷◌, ℕ, Bool, List, None, Some, length};
 ghost use Rattle.std.specs.List.{flat_map};
 ghost use Rattle.expr_table.specs.declared.instance.Instance.{Instance};
+ghost use Rattle.expr_table.specs.Instance.{IsFitting};
+ghost use Rattle.expr_table.specs.Table.{IsTable};
 ghost use Rattle.probe_family.specs.declared.family.Family.{Family};
 ghost use Rattle.probe_family.specs.Families.{IsFamily};
 ghost use Rattle.family_split.specs.Children.{children_of};
@@ -10,9 +12,10 @@ ghost use Rattle.extend_set.specs.Hull.{hull_of};
 ghost use Rattle.frontier_core.specs.declared.event.Event.{Event};
 ghost use Rattle.frontier_core.specs.declared.verdict.Verdict.{Verdict};
 ghost use Rattle.frontier_core.specs.Answer.{IsFailedTuple, IsLeast, IsSameVerdict, IsSearchOf};
-ghost use Rattle.frontier_core.specs.Balance.{failed_ranks};
+ghost use Rattle.frontier_core.specs.Balance.{AsOften, failed_ranks};
+ghost use Rattle.frontier_core.specs.Closings.{closings_of};
 ghost use Rattle.frontier_core.specs.Core.{CoreState, IsCoreOf, IsIdle, core_after_all, first_core};
-ghost use Rattle.frontier_core.specs.Tree.{closed_under, first_of, under};
+ghost use Rattle.frontier_core.specs.Tree.{closed_under, first_of, tree_of, under};
 ghost use Rattle.frontier_core.specs.Verdict.{IsVerdict};
 
 /// A family that has a hull gives itself, closed under the hull, and then what its children give, in order.
@@ -29,16 +32,23 @@ pub fn events_keep_the_search()
         → IsCoreOf x t (core_after_all x t core events) }
 {}
 
-/// An idle core tells the first tuple that is not proved: none, where no family failed, and else the least tuple of the
-/// family that failed with the least rank.
-pub fn idle_core_tells_the_first()
-    ensures none { (x : Instance) (t : ℕ) (core : CoreState) → IsSearchOf x t core → IsIdle core
-        → failed_ranks core.ended ≡ [] → first_of x t ≡ None }
-    ensures some { (x : Instance) (t : ℕ) (core : CoreState) (rank : ℕ) (tuple : List ℕ) → IsSearchOf x t core → IsIdle core
-        → IsLeast (failed_ranks core.ended) rank → IsFailedTuple core.ended rank tuple → first_of x t ≡ Some tuple }
+/// Whatever list of events leads a search from its first core, or from one that was resumed, to one that is idle: where no
+/// family failed, no tuple is first, and the closed families are, as often, those of the proof tree; else the least tuple of
+/// the family that failed with the least rank is the first tuple that is not proved.
+pub fn every_list_of_events_tells_the_verdict()
+    ensures begins { (x : Instance) (t workers : ℕ) → IsTable x.table → IsFitting x → t ≤ 8
+        → IsSearchOf x t (first_core x t workers) }
+    ensures secure { (x : Instance) (t : ℕ) (core : CoreState) (events : List Event) → IsSearchOf x t core
+        → let last = core_after_all x t core events in IsIdle last → failed_ranks last.ended ≡ []
+        → (first_of x t ≡ None) × AsOften (closings_of last.ended) (tree_of x t) }
+    ensures unproved { (x : Instance) (t : ℕ) (core : CoreState) (events : List Event) → IsSearchOf x t core
+        → let last = core_after_all x t core events in IsIdle last
+        → (rank : ℕ) (tuple : List ℕ) → IsLeast (failed_ranks last.ended) rank → IsFailedTuple last.ended rank tuple
+        → first_of x t ≡ Some tuple }
 {}
 
-/// An instance and an order have one verdict.
+/// An instance and an order have one verdict. So [`Core::verdict`](crate::Core::verdict) answers the same whatever list of
+/// events led from the first core of a search to one that is idle.
 pub fn verdict_is_one()
     ensures { (x : Instance) (t : ℕ) (a b : Verdict) → IsVerdict x t a → IsVerdict x t b → IsSameVerdict a b }
 {}

@@ -17,6 +17,7 @@ mod event;
 mod laws;
 mod one_family;
 mod preorder;
+mod schedule;
 mod stack;
 mod steps;
 mod verdict;
@@ -24,10 +25,11 @@ mod verdict;
 pub use core_state::Core;
 pub use event::{Event, Stepped};
 pub use laws::{
-    events_keep_the_search, family_gives_itself_and_its_children, idle_core_tells_the_first,
-    verdict_is_one,
+    events_keep_the_search, every_list_of_events_tells_the_verdict,
+    family_gives_itself_and_its_children, verdict_is_one,
 };
 pub use one_family::{Outcome, work};
 pub use probe_family::NoMemory;
+pub use schedule::run_schedule;
 pub use stack::stack_up;
 pub use verdict::Verdict;

@@ -1,5 +1,5 @@
 //! The work on one family.
-ghost use Rattle.std.specs.Prelude.{◌≡◌, ◌≤◌, IfOk, IfSome, IsNone, MatchOption, None, Some, length};
+ghost use Rattle.std.specs.Prelude.{◌≡◌, ◌≤◌, IfOk, length};
 ghost use Rattle.expr_table.specs.Instance.{IsFitting};
 ghost use Rattle.probe_family.specs.Families.{IsFamily};
 ghost use Rattle.extend_set.specs.Hull.{hull_of};
@@ -7,9 +7,10 @@ ghost use Rattle.frontier_core.specs.Work.{IsOutcome};
 
 use bit_rows::BitRow;
 use expr_table::Instance;
-use extend_set::Scratch;
+use extend_set::hull;
 use family_split::children;
 use probe_family::{Family, NoMemory};
+use sim_rules::Scratch;
 use std::alloc::Global;
 use tuple_rank::{Binomials, Tuple};
 
@@ -38,7 +39,7 @@ pub fn find_hull(
     ensures hull { IfOk result (λ hull. hull ≡ hull_of instance.now family.now) }
 {
     let mut set = BitRow::make(alloc, instance.probes.as_slice().len() as u32)?;
-    match extend_set::hull(instance, scratch, family, &mut set) {
+    match hull(instance, scratch, family, &mut set) {
         Some(()) => Ok(Some(set)),
         None => Ok(None),
     }

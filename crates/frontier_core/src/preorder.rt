@@ -1,5 +1,5 @@
 //! The closed families of a search in the order of the proof tree.
-ghost use Rattle.std.specs.Prelude.{◌≡◌, ◌≤◌, ℕ, [], IfOk};
+ghost use Rattle.std.specs.Prelude.{◌≡◌, ℕ, IfOk};
 ghost use Rattle.expr_table.specs.declared.instance.Instance.{Instance};
 ghost use Rattle.frontier_core.specs.Preorder.{IsWhole};
 ghost use Rattle.frontier_core.specs.Tree.{tree_of};

@@ -1,20 +1,20 @@
 //! What the events do to a core.
-ghost use Rattle.std.specs.Prelude.{◌≡◌, ◌<◌, ◌≤◌, ◌++◌, ℕ, IfOk, IfSome, OnErr, OnOk, None, Some, IsSome, length, vec_len, vec_capacity};
+ghost use Rattle.std.specs.Prelude.{◌≡◌, ◌<◌, ◌≤◌, ◌++◌, ℕ, IfOk, IfSome, OnErr, OnOk, IsSome, length, vec_len, vec_capacity};
 ghost use Rattle.std.specs.Option.{option_copied};
+ghost use Rattle.expr_table.specs.declared.instance.Instance.{Instance};
 ghost use Rattle.expr_table.specs.Instance.{IsFitting};
 ghost use Rattle.probe_family.specs.Families.{IsFamily};
 ghost use Rattle.frontier_core.specs.Balance.{failed_rank, given_by};
-ghost use Rattle.expr_table.specs.declared.instance.Instance.{Instance};
+ghost use Rattle.frontier_core.specs.Core.{IsCoreOf, answer_to, core_after, held_by, with_its_end};
 ghost use Rattle.frontier_core.specs.Search.{IsSearched};
-ghost use Rattle.frontier_core.specs.Core.{IsCoreOf, answer_to, core_after, held_by, is_least_provable, with_its_end};
 
 use crate::core_state::Core;
 use crate::event::{Event, Stepped};
 use crate::one_family::find_hull;
 use expr_table::Instance;
-use extend_set::Scratch;
 use family_split::children;
 use probe_family::{Ended, Ending, Family, NoMemory};
+use sim_rules::Scratch;
 use std::alloc::Global;
 use tuple_rank::Binomials;
 
@@ -50,7 +50,7 @@ impl Core {
     {
         self.ended.reserve(1)?;
         self.failed.reserve(1)?;
-        self.open.append(&mut given)?;
+        self.open_families.append(&mut given)?;
         note_failed(&mut self.failed, &how);
         let Some(family) = self.held[worker as usize].take() else {
             unreachable!()
@@ -70,10 +70,10 @@ impl Core {
             Some(held) => held.is_none(),
             None => false,
         };
-        if !is_free || place as usize >= self.open.len() {
+        if !is_free || place as usize >= self.open_families.len() {
             return Stepped::NotAllowed;
         }
-        let family = self.open.remove(place as usize);
+        let family = self.open_families.remove(place as usize);
         self.held[worker as usize] = Some(family);
         Stepped::Done
     }

@@ -436,8 +436,23 @@ take_all_bits [] = refl
 take_all_bits (x ∷ xs) = ap (λ ys. x ∷ ys) (take_all_bits xs)
 
 -- the whole of a signal
-pub whole_signal : (ws : List NetWire) (s : Signal) (n : ℕ) (old new : List SignalBit) → IsGood (shape ws s) → n ≡ (shape ws s).width → old ≡ []
-    → new ≡ old ++ take n (signal_bits ws s) → new ≡ signal_bits ws s
-whole_signal ws s n old new g e o h =
-    h ∙ (ap (λ v. v ++ take n (signal_bits ws s)) o
-    ∙ (ap (λ k. take k (signal_bits ws s)) (e ∙ sym (bits_length ws s g)) ∙ take_all_bits (signal_bits ws s)))
+pub wire_whole : (ws : List NetWire) (s : Signal) (name name' : List ℕ) (span : Span) → s ≡ variant.Wire name → name' ≡ name → Some span ≡ span_named ws name'
+    → map (λ k. Net k) (numbers span.first span.width) ≡ signal_bits ws s
+wire_whole ws s name name' span e p h = sym (ap (signal_bits ws) e ∙ some_bits ws name name' span p h)
+
+pub slice_whole : (ws : List NetWire) (s of of' : Signal) (high low : ℕ) → s ≡ variant.Slice of high low → of' ≡ of → IsGood (shape ws s)
+    → IsGood (shape ws of') × (low + (high - low + 1) ≤ (shape ws of').width) × (low ≤ high) × (high < most_width)
+    × (take (high - low + 1) (drop low (signal_bits ws of')) ≡ signal_bits ws s)
+slice_whole ws s of of' high low e p g =
+    let f = good_of ws of high low (subst (λ v. IsGood (shape ws v)) e g) in
+    let n = good_narrow ws of f.0 in
+    subst (λ v. IsGood (shape ws v) × (low + (high - low + 1) ≤ (shape ws v).width) × (low ≤ high) × (high < most_width) × (take (high - low + 1) (drop low (signal_bits ws v)) ≡ signal_bits ws s)) (sym p) (
+      f.0,
+      omega (arith, f.1, f.2),
+      f.2,
+      omega (arith, f.1, n),
+      ap (λ k. take k (drop low (signal_bits ws of))) (sym (slice_width_is high low f.2)) ∙ sym (ap (signal_bits ws) e ∙ bits_slice ws of high low),
+    )
+
+pub all_taken : (ws : List NetWire) (s : Signal) (n : ℕ) → IsGood (shape ws s) → n ≡ (shape ws s).width → take n (signal_bits ws s) ≡ signal_bits ws s
+all_taken ws s n g e = ap (λ k. take k (signal_bits ws s)) (e ∙ sym (bits_length ws s g)) ∙ take_all_bits (signal_bits ws s)

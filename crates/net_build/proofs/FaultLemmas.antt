@@ -1,6 +1,7 @@
 -- Faults of two lists together.
 use Rattle.std.proofs.Common.{◌≡◌, ℕ, ◌+◌, ◌<◌, ◌≤◌, Bool, true, false, ◌&&◌, ◌||◌, not, cond, min, List, [], ◌∷◌, ◌++◌, length, take, map, filter, get_or, Option, Some, None, refl, sym, ap, ◌∙◌, subst, arith, append_assoc, zero, suc, nat_eq, ◌==◌}
 use Rattle.std.specs.List.{list_any, flat_map}
+use Rattle.std.specs.Option.{is_some}
 use Rattle.std.proofs.lemmas.List.{take_more, append-nil}
 use Rattle.circuit_types.specs.Items.{cells, is_kept, kept_cells}
 use Rattle.circuit_types.specs.Nets.{Link, port_link, item_links, links, is_too_wide, is_unnamed, is_badly_sliced, is_mismatched, is_unsupported, is_module, lacks_port}
@@ -16,7 +17,8 @@ use Rattle.circuit_types.specs.Signals.{shape}
 use Rattle.net_build.proofs.BitLemmas.{narrow_width}
 use Rattle.circuit_types.specs.declared.nets.NetWire.{NetWire}
 use Rattle.cell_kinds.specs.declared.kind.CellKind.{CellKind}
-use Rattle.net_build.specs.Faults.{earlier_of, least_of, AreFaults}
+use Rattle.circuit_types.specs.declared.refusal.Refusal.{Refusal}
+use Rattle.net_build.specs.Faults.{earlier_of, least_of, AreFaults, else_all, else_line, refusal_in}
 use Rattle.net_build.specs.declared.faults.Faults.{Faults}
 
 earlier_assoc : (a b c : Option ℕ) → earlier_of (earlier_of a b) c ≡ earlier_of a (earlier_of b c)
@@ -135,25 +137,6 @@ flat-append : {X Y : Type 0} (f : X → List Y) (xs ys : List X) → flat_map f 
 flat-append f [] ys = refl
 flat-append f (x ∷ xs) ys = ap (λ v. f x ++ v) (flat-append f xs ys) ∙ sym (append_assoc (f x) (flat_map f xs) (flat_map f ys))
 
-pub next_item : (ws : List NetWire) (xs : List Item) (i : ℕ) (x : Item) (f g r : Faults) → i < length xs → x ≡ get_or xs i x
-    → AreFaults (links ws (take i xs)) (kept_cells (take i xs)) f → AreFaults (item_links ws x) (kept_cells (x ∷ [])) g
-    → r ≡ record {
-      too_wide = f.too_wide || g.too_wide;
-      unsupported = earlier_of f.unsupported g.unsupported;
-      hierarchy = earlier_of f.hierarchy g.hierarchy;
-      no_wire = earlier_of f.no_wire g.no_wire;
-      bad_slice = earlier_of f.bad_slice g.bad_slice;
-      mismatch = earlier_of f.mismatch g.mismatch;
-      missing = earlier_of f.missing g.missing;
-    }
-    → AreFaults (links ws (take (i + 1) xs)) (kept_cells (take (i + 1) xs)) r
-next_item ws xs i x f g r h e a b q =
-    let all = join_faults (links ws (take i xs)) (item_links ws x) (kept_cells (take i xs)) (kept_cells (x ∷ [])) f g r a b q in
-    let t = take_more xs i x h ∙ ap (λ y. take i xs ++ y ∷ []) (sym e) in
-    let ls = ap (links ws) t ∙ (flat-append (item_links ws) (take i xs) (x ∷ []) ∙ ap (λ v. links ws (take i xs) ++ v) (append-nil (item_links ws x))) in
-    let cs = ap kept_cells t ∙ kept-append (take i xs) (x ∷ []) in
-    subst (λ v. AreFaults v (kept_cells (take (i + 1) xs)) r) (sym ls) (subst (λ v. AreFaults (links ws (take i xs) ++ item_links ws x) v r) (sym cs) all)
-
 abbrev pub none : Faults
 none = record { too_wide = false; unsupported = None; hierarchy = None; no_wire = None; bad_slice = None; mismatch = None; missing = None }
 
@@ -262,3 +245,99 @@ sides_fit ws c l r e h k =
     let x : l.width ≡ (shape ws c.left).width = omega (arith, a, ap (λ (v : Code). v.width) e) in
     let y : r.width ≡ (shape ws c.right).width = omega (arith, b, ap (λ (v : Code). v.width) h) in
     ap (λ v. not (nat_eq v r.width)) x ∙ ap (λ v. not (nat_eq (shape ws c.left).width v)) y
+
+-- no fault of two parts, and of neither
+
+earlier_none : (a b : Option ℕ) → earlier_of a b ≡ None → (a ≡ None) × (b ≡ None)
+earlier_none None b h = (refl, h)
+earlier_none (Some x) None h = cc
+earlier_none (Some x) (Some y) h = cc
+
+all_none : (b : Bool) (r : Refusal) (rest : Option Refusal) → else_all b r rest ≡ None → (b ≡ false) × (rest ≡ None)
+all_none true r rest h = cc
+all_none false r rest h = (refl, h)
+
+line_none : (k : ℕ → Refusal) (o : Option ℕ) (rest : Option Refusal) → else_line k o rest ≡ None → (o ≡ None) × (rest ≡ None)
+line_none k None rest h = (refl, h)
+line_none k (Some l) rest h = cc
+
+-- nothing is wrong
+pub record IsFine (f : Faults) : Type 0 where
+  pub too_wide : f.too_wide ≡ false
+  pub unsupported : f.unsupported ≡ None
+  pub hierarchy : f.hierarchy ≡ None
+  pub no_wire : f.no_wire ≡ None
+  pub bad_slice : f.bad_slice ≡ None
+  pub mismatch : f.mismatch ≡ None
+  pub missing : f.missing ≡ None
+
+pub fine : (f : Faults) → refusal_in f ≡ None → IsFine f
+fine f h =
+    let a = all_none f.too_wide _ _ h in
+    let b = line_none _ f.unsupported _ a.1 in
+    let c = line_none _ f.hierarchy _ b.1 in
+    let d = line_none _ f.no_wire _ c.1 in
+    let e = line_none _ f.bad_slice _ d.1 in
+    let g = line_none _ f.mismatch _ e.1 in
+    let k = line_none _ f.missing _ g.1 in
+    record { too_wide = a.0; unsupported = b.0; hierarchy = c.0; no_wire = d.0; bad_slice = e.0; mismatch = g.0; missing = k.0 }
+
+all_unrefused : (b : Bool) (r : Refusal) (rest : Option Refusal) → b ≡ false → rest ≡ None → else_all b r rest ≡ None
+all_unrefused true r rest h k = cc
+all_unrefused false r rest h k = k
+
+line_unrefused : (k : ℕ → Refusal) (o : Option ℕ) (rest : Option Refusal) → o ≡ None → rest ≡ None → else_line k o rest ≡ None
+line_unrefused k None rest h e = e
+line_unrefused k (Some l) rest h e = cc
+
+unrefused : (f : Faults) → IsFine f → refusal_in f ≡ None
+unrefused f h =
+    all_unrefused f.too_wide _ _ h.too_wide
+    (line_unrefused _ f.unsupported _ h.unsupported
+    (line_unrefused _ f.hierarchy _ h.hierarchy
+    (line_unrefused _ f.no_wire _ h.no_wire
+    (line_unrefused _ f.bad_slice _ h.bad_slice
+    (line_unrefused _ f.mismatch _ h.mismatch
+    (line_unrefused _ f.missing None h.missing refl))))))
+
+abbrev pub together : Faults → Faults → Faults
+together f g = record {
+  too_wide = f.too_wide || g.too_wide;
+  unsupported = earlier_of f.unsupported g.unsupported;
+  hierarchy = earlier_of f.hierarchy g.hierarchy;
+  no_wire = earlier_of f.no_wire g.no_wire;
+  bad_slice = earlier_of f.bad_slice g.bad_slice;
+  mismatch = earlier_of f.mismatch g.mismatch;
+  missing = earlier_of f.missing g.missing;
+}
+
+pub parts_fine : (f g r : Faults) → r ≡ together f g → refusal_in r ≡ None → (refusal_in f ≡ None) × (refusal_in g ≡ None)
+parts_fine f g r e h =
+    let k = fine (together f g) (ap refusal_in (sym e) ∙ h) in
+    let a = or_none f.too_wide g.too_wide k.too_wide in
+    let b = earlier_none f.unsupported g.unsupported k.unsupported in
+    let c = earlier_none f.hierarchy g.hierarchy k.hierarchy in
+    let d = earlier_none f.no_wire g.no_wire k.no_wire in
+    let s = earlier_none f.bad_slice g.bad_slice k.bad_slice in
+    let m = earlier_none f.mismatch g.mismatch k.mismatch in
+    let p = earlier_none f.missing g.missing k.missing in (
+      unrefused f (record { too_wide = a.0; unsupported = b.0; hierarchy = c.0; no_wire = d.0; bad_slice = s.0; mismatch = m.0; missing = p.0 }),
+      unrefused g (record { too_wide = a.1; unsupported = b.1; hierarchy = c.1; no_wire = d.1; bad_slice = s.1; mismatch = m.1; missing = p.1 }),
+    )
+
+pub unrefused_of : (o : Option Refusal) → is_some o ≡ false → o ≡ None
+unrefused_of None h = refl
+unrefused_of (Some r) h = cc
+
+pub refused_none : (o : Option Refusal) → is_some o ≡ true → o ≡ None → ⊥
+refused_none None h e = cc
+refused_none (Some r) h e = cc
+
+-- one item behind others
+pub item_joins : (ws : List NetWire) (xs : List Item) (x : Item) (f g r : Faults) → AreFaults (links ws xs) (kept_cells xs) f → AreFaults (item_links ws x) (kept_cells (x ∷ [])) g
+    → r ≡ together f g → AreFaults (links ws (xs ++ x ∷ [])) (kept_cells (xs ++ x ∷ [])) r
+item_joins ws xs x f g r a b q =
+    let all = join_faults (links ws xs) (item_links ws x) (kept_cells xs) (kept_cells (x ∷ [])) f g r a b q in
+    let ls = flat-append (item_links ws) xs (x ∷ []) ∙ ap (λ v. links ws xs ++ v) (append-nil (item_links ws x)) in
+    let cs = kept-append xs (x ∷ []) in
+    subst (λ v. AreFaults v (kept_cells (xs ++ x ∷ [])) r) (sym ls) (subst (λ v. AreFaults (links ws xs ++ item_links ws x) v r) (sym cs) all)

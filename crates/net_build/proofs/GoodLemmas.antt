@@ -26,7 +26,10 @@ use Rattle.net_build.specs.Form.{form_causes}
 use Rattle.net_build.specs.Good.{AreGoodPorts, IsGoodConnect, IsGoodItem}
 use Rattle.net_build.specs.Shapes.{IsGood}
 use Rattle.net_build.proofs.BitLemmas.{bits_length}
-use Rattle.net_build.proofs.DueLemmas.{contains_first}
+use Rattle.net_build.specs.Faults.{AreFaults, refusal_in}
+use Rattle.net_build.specs.declared.faults.Faults.{Faults}
+use Rattle.net_build.proofs.DueLemmas.{contains_first, least_none}
+use Rattle.net_build.proofs.FaultLemmas.{fine}
 use Rattle.net_build.proofs.EachLemmas.{Each, each_parts, each_both, each_weaker, each_found}
 
 pub record IsGoodLink (l : Link) : Type 0 where
@@ -178,3 +181,15 @@ good_output ws c r p h e q =
 pub sides_fit : (ws : List NetWire) (c : Connect) (left right : List SignalBit) → IsGoodConnect ws c → left ≡ signal_bits ws c.left → right ≡ signal_bits ws c.right → length left ≡ length right
 sides_fit ws c left right g e h =
     ap length e ∙ (bits_length ws c.left g.left ∙ (g.fits ∙ (sym (bits_length ws c.right g.right) ∙ sym (ap length h))))
+
+-- nothing is wrong with one item
+pub fine_item : (ws : List NetWire) (x : Item) (cs : List Cell) (f : Faults) → AreFaults (item_links ws x) cs f → refusal_in f ≡ None → IsGoodItem ws x
+fine_item ws x cs f a h =
+    let ls = item_links ws x in
+    let n = fine f h in
+    let line : Link → ℕ = λ l. l.line in
+    good_item ws x
+    (good_links ls (any_false is_too_wide ls (sym a.too_wide ∙ n.too_wide))
+    (none_pass line is_unnamed ls (least_none (map line (filter is_unnamed ls)) (sym a.no_wire ∙ n.no_wire)))
+    (none_pass line is_badly_sliced ls (least_none (map line (filter is_badly_sliced ls)) (sym a.bad_slice ∙ n.bad_slice)))
+    (none_pass line is_mismatched ls (least_none (map line (filter is_mismatched ls)) (sym (a.mismatch n.too_wide) ∙ n.mismatch))))

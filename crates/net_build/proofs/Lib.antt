@@ -13,3 +13,4 @@ pub mod DriveLemmas
 pub mod SourceLemmas
 pub mod ReadLemmas
 pub mod NetLemmas
+pub mod PortLemmas

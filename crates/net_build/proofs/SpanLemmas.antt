@@ -1,17 +1,14 @@
--- The map of names, made from the last wire on.
-use Rattle.std.proofs.Common.{◌≡◌, ℕ, ◌+◌, ◌-◌, ◌<◌, ◌≤◌, Bool, true, false, cond, List, [], ◌∷◌, length, drop, get_or, Option, Some, option_map, refl, sym, ap, ◌∙◌, subst, arith}
-use Rattle.std.specs.Borrow.{Bor}
-use Rattle.std.specs.Ordering.{nat_cmp}
-use Rattle.std.specs.Cmp.Lexicographic.{slice_cmp}
+-- The table of names, made wire by wire.
+use Rattle.std.proofs.Common.{◌≡◌, ℕ, ◌+◌, ◌<◌, ◌≤◌, Bool, true, false, cond, List, [], ◌∷◌, ◌++◌, length, take, get_or, Option, Some, None, option_map, refl, sym, ap, ◌∙◌, subst, ⊎_elim}
 use Rattle.std.specs.Str.{bytes_eq}
-use Rattle.std.specs.BTreeMap as tree
-use Rattle.std.specs.BTreeMap.{BTreeMap, get_by}
-use Rattle.std.specs.Map.{lookup}
 use Rattle.std.specs.List.{find, All}
-use Rattle.std.specs.Option.{IfSome}
+use Rattle.std.specs.Option.{IfSome, option_or}
+use Rattle.std.proofs.lemmas.Bool.{cases_Bool}
+use Rattle.std.proofs.lemmas.List.{take_more, take_all}
 use Rattle.std.proofs.lemmas.List.Elements.{All-head, All-tail}
-use Rattle.std.proofs.lemmas.Map.Text.{btree_map_updates_str}
-use Rattle.std.proofs.lemmas.List.{drop_all, drop_more}
+use Rattle.std.proofs.lemmas.List.Folds.{find-append}
+use Rattle.std.proofs.lemmas.Slice.Eq.{bytes_eq-Decides}
+use Rattle.name_table.specs.Names.{value_of, HasAlso}
 use Rattle.circuit_types.specs.Items.{wire_named}
 use Rattle.circuit_types.specs.declared.nets.NetWire.{NetWire}
 use Rattle.net_build.specs.Spans.{KnowsSpans, span_of, span_named}
@@ -21,36 +18,40 @@ map_cond : (b : Bool) (w : NetWire) (o : Option NetWire) → option_map span_of 
 map_cond true w o = refl
 map_cond false w o = refl
 
-span_first : (w : NetWire) (ws : List NetWire) (name : List ℕ)
-    → span_named (w ∷ ws) name ≡ cond (bytes_eq w.name name) (Some (span_of w)) (span_named ws name)
+eq_sym : (a b : List ℕ) → bytes_eq a b ≡ bytes_eq b a
+eq_sym a b =
+    ⊎_elim (λ t. t ∙ sym ((bytes_eq-Decides b a).1 (sym ((bytes_eq-Decides a b).0 t))))
+    (λ f. ⊎_elim (λ t. let e : a ≡ b = sym ((bytes_eq-Decides b a).0 t) in let y = (bytes_eq-Decides a b).1 e in absurd cc) (λ g. f ∙ sym g) (cases_Bool (bytes_eq b a)))
+    (cases_Bool (bytes_eq a b))
+
+map_or : (o p : Option NetWire) → option_map span_of (option_or o p) ≡ option_or (option_map span_of o) (option_map span_of p)
+map_or None p = refl
+map_or (Some w) p = refl
+
+pub none_known : (t : List (List ℕ × Span)) → t ≡ [] → KnowsSpans [] t
 unfolding span_named wire_named
-span_first w ws name = map_cond (bytes_eq w.name name) w (find (λ v. bytes_eq v.name name) ws)
+none_known t e name = ap (value_of name) e
 
-pub none_known : (m : BTreeMap (Bor (List ℕ)) Span) → tree.IsEmpty m → KnowsSpans [] m
+one_known : (ws : List NetWire) (w : NetWire) (bs : List ℕ) (t u : List (List ℕ × Span)) → HasAlso t u bs (span_of w) → bs ≡ w.name → KnowsSpans ws t → KnowsSpans (ws ++ w ∷ []) u
 unfolding span_named wire_named
-none_known m e name = ap (λ es. lookup (tree.is_at (λ (k : Bor (List ℕ)). slice_cmp nat_cmp name k.now)) es) e
+one_known ws w bs t u h e known name =
+    let p : NetWire → Bool = λ v. bytes_eq v.name name in
+    let test : bytes_eq name bs ≡ bytes_eq w.name name = ap (bytes_eq name) e ∙ eq_sym name w.name in
+    h name
+    ∙ (ap (λ o. option_or o (cond (bytes_eq name bs) (Some (span_of w)) None)) (known name)
+    ∙ (ap (λ b. option_or (span_named ws name) (cond b (Some (span_of w)) None)) test
+    ∙ sym (ap (option_map span_of) (find-append p ws (w ∷ []))
+    ∙ (map_or (find p ws) (cond (p w) (Some w) None) ∙ ap (option_or (option_map span_of (find p ws))) (map_cond (p w) w None)))))
 
-one_known : (w : NetWire) (bs : List ℕ) (ws : List NetWire) (m n : BTreeMap (Bor (List ℕ)) Span)
-    → tree.UpdatesBy (λ x y. slice_cmp nat_cmp x.now y.now) (λ k. slice_cmp nat_cmp bs k.now) m n (Some (span_of w))
-    → bs ≡ w.name → KnowsSpans ws m → KnowsSpans (w ∷ ws) n
-one_known w bs ws m n u e known name =
-    btree_map_updates_str bs m n (Some (span_of w)) u name
-    ∙ (ap (λ b. cond (bytes_eq b name) (Some (span_of w)) (get_by (λ k. slice_cmp nat_cmp name k.now) m)) e
-    ∙ (ap (λ o. cond (bytes_eq w.name name) (Some (span_of w)) o) (known name)
-    ∙ sym (span_first w ws name)))
+-- one wire more
+pub step_known : (ws : List NetWire) (i : ℕ) (w : NetWire) (bs : List ℕ) (s : Span) (t u : List (List ℕ × Span)) → i < length ws → w ≡ get_or ws i w → bs ≡ w.name → s ≡ span_of w
+    → HasAlso t u bs s → KnowsSpans (take i ws) t → KnowsSpans (take (i + 1) ws) u
+step_known ws i w bs s t u lt is e q h known =
+    let more : take (i + 1) ws ≡ take i ws ++ w ∷ [] = take_more ws i w lt ∙ ap (λ x. take i ws ++ x ∷ []) (sym is) in
+    subst (λ v. KnowsSpans v u) (sym more) (one_known (take i ws) w bs t u (subst (HasAlso t u bs) q h) e known)
 
-pub all_unknown : (ws : List NetWire) (n : ℕ) (m : BTreeMap (Bor (List ℕ)) Span) → length ws ≤ n → tree.IsEmpty m → KnowsSpans (drop n ws) m
-all_unknown ws n m h e = subst (λ xs. KnowsSpans xs m) (sym (drop_all n ws h)) (none_known m e)
-
-pub step_known : (ws : List NetWire) (k : ℕ) (w : NetWire) (bs : List ℕ) (m n : BTreeMap (Bor (List ℕ)) Span) → 0 < k → k ≤ length ws
-    → w ≡ get_or ws (k - 1) w → bs ≡ w.name
-    → tree.UpdatesBy (λ x y. slice_cmp nat_cmp x.now y.now) (λ q. slice_cmp nat_cmp bs q.now) m n (Some (span_of w))
-    → KnowsSpans (drop k ws) m → KnowsSpans (drop (k - 1) ws) n
-step_known ws k w bs m n pos h is e u known =
-    let front : drop (k - 1) ws ≡ get_or ws (k - 1) w ∷ drop (k - 1 + 1) ws = drop_more ws (k - 1) w (omega arith) in
-    let same : k - 1 + 1 ≡ k = omega arith in
-    let whole : drop (k - 1) ws ≡ w ∷ drop k ws = front ∙ (ap (λ x. x ∷ drop (k - 1 + 1) ws) (sym is) ∙ ap (λ i. w ∷ drop i ws) same) in
-    subst (λ xs. KnowsSpans xs n) (sym whole) (one_known w bs (drop k ws) m n u e known)
+pub all_known : (ws : List NetWire) (i : ℕ) (t : List (List ℕ × Span)) → length ws ≤ i → KnowsSpans (take i ws) t → KnowsSpans ws t
+all_known ws i t h known = subst (λ v. KnowsSpans v t) (take_all i ws h) known
 
 cond_within : (most : ℕ) (b : Bool) (w : NetWire) (o : Option NetWire) → w.first + w.width ≤ most
     → IfSome (option_map span_of o) (λ span. span.first + span.width ≤ most)

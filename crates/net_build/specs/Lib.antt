@@ -8,6 +8,7 @@ pub mod Names
 pub mod Form
 pub mod Good
 pub mod Drives
+pub mod Ports
 pub mod Sources
 pub mod Reading
 pub mod Built

@@ -2,26 +2,25 @@
 
 ghost use Rattle.std.specs.Prelude.{◌≡◌, ◌+◌, ◌≤◌, [], ◌∷◌, ◌++◌, true, nat_le, List, All, None, length, map, if◌then◌else◌, IfOk, IfErr, OnOk, Contains};
 ghost use Rattle.std.specs.List.{list_all, zip};
-ghost use Rattle.std.specs.Option.{option_copied};
-ghost use Rattle.cell_kinds.specs.Names.{kind_named};
 ghost use Rattle.circuit_types.specs.Due.{Never};
 ghost use Rattle.circuit_types.specs.Items.{is_kept as is_kept_cell, kept_cells, cells, bit_count};
-ghost use Rattle.circuit_types.specs.Drives.{Drive, output_connect as output_connect_of, cell_drives, drives, drives_from, redriven};
+ghost use Rattle.circuit_types.specs.Drives.{Drive, drives, drives_from, redriven};
 ghost use Rattle.circuit_types.specs.Nets.{most_bits, most_cells};
 ghost use Rattle.net_build.specs.Drivers.{IsWithin, KnowsDrivers, is_driven, driven, tied, joined};
 ghost use Rattle.net_build.specs.Drives.{HasDriven, IsTwice, joined_bits, is_from as is_from_line, NoneBefore};
 ghost use Rattle.circuit_types.specs.declared.nets.NetWire.{NetWire as AnyWire};
 ghost use Rattle.net_build.specs.Faults.{earlier_of, least_of};
-ghost use Rattle.net_build.specs.Good.{AreWithin, AreGoodPorts, IsGoodConnect, IsGoodItem};
+ghost use Rattle.net_build.specs.Good.{AreWithin, IsGoodConnect, IsGoodItem};
+ghost use Rattle.net_build.specs.Ports.{KnowsPorts, KnowsNext};
 ghost use Rattle.net_build.specs.Stops.{IfRefused};
 
 use crate::drivers::{Driver, drive};
 use crate::expand::bits_of;
-use crate::faults::{connect_of, earlier, is_kept};
+use crate::faults::{earlier, is_kept};
+use crate::ports::Ports;
 use crate::starts::starting_drivers;
 use crate::wires::Wires;
-use cell_kinds::{kind_of, output_port};
-use circuit_types::{Cell, Connect, Item, NoMemory, PortConnect, Refusal, SignalBit, Stop};
+use circuit_types::{Connect, Item, NoMemory, PortConnect, Refusal, SignalBit, Stop};
 use std::alloc::Global;
 
 /// What drives each bit so far.
@@ -77,7 +76,13 @@ impl Drivers {
 /// the first refused drive the later lines are looked at: where none is less, as in a file, that line is the least and
 /// nothing more is gone over. Only where statements are out of order, as in a module that others were put into, are
 /// all of them gone over.
-pub fn drivers_of(alloc: Global, wires: &Wires<'_>, items: &[Item]) -> Result<Vec<Driver>, Stop>
+pub fn drivers_of(
+    alloc: Global,
+    wires: &Wires<'_>,
+    items: &[Item],
+    ports: &Ports,
+) -> Result<Vec<Driver>, Stop>
+    requires ports { KnowsPorts wires.now.list.now (kept_cells items.now) ports.now }
     requires good { All (IsGoodItem wires.now.list.now) items.now }
     requires within { AreWithin wires.now.list.now }
     requires few_bits { bit_count wires.now.list.now ≤ most_bits }
@@ -90,7 +95,7 @@ pub fn drivers_of(alloc: Global, wires: &Wires<'_>, items: &[Item]) -> Result<Ve
         list: starting_drivers(alloc, wires.list)?,
         refused: None,
     };
-    drive_all(alloc, wires, items, &mut drivers)?;
+    drive_all(alloc, wires, items, ports, &mut drivers)?;
     if let Some(line) = drivers.refused {
         return Err(Stop::Refused(Refusal::TwoDrivers { line }));
     }
@@ -102,8 +107,10 @@ fn drive_all(
     alloc: Global,
     wires: &Wires<'_>,
     items: &[Item],
+    ports: &Ports,
     drivers: &mut Drivers,
 ) -> Result<(), NoMemory>
+    requires ports { KnowsPorts wires.now.list.now (kept_cells items.now) ports.now }
     requires good { All (IsGoodItem wires.now.list.now) items.now }
     requires within { AreWithin wires.now.list.now }
     requires few_cells { length (cells items.now) ≤ most_cells }
@@ -116,7 +123,7 @@ fn drive_all(
     let mut number = 0;
     for (place, item) in items.iter().enumerate() {
         let before = drivers.refused;
-        number = drive_item(alloc, wires, item, number, drivers)?;
+        number = drive_item(alloc, wires, item, ports, number, drivers)?;
         if is_least(before, drivers.refused, &items[place + 1..]) {
             return Ok(());
         }
@@ -165,9 +172,11 @@ fn drive_item(
     alloc: Global,
     wires: &Wires<'_>,
     item: &Item,
+    ports: &Ports,
     number: u32,
     drivers: &mut Drivers,
 ) -> Result<u32, NoMemory>
+    requires ports { KnowsNext wires.now.list.now (kept_cells (item.now ∷ [])) number ports.now }
     requires good { IsGoodItem wires.now.list.now item.now }
     requires within { AreWithin wires.now.list.now }
     requires size { length drivers.old.list.items ≡ bit_count wires.now.list.now }
@@ -180,7 +189,8 @@ fn drive_item(
     match item {
         Item::Cell(cell) => {
             if is_kept(cell) {
-                drive_cell(alloc, wires, cell, number, drivers)?;
+                let (line, bits) = ports.output(number);
+                drivers.tie(line, bits, number);
                 Ok(number + 1)
             } else {
                 Ok(number)
@@ -212,37 +222,4 @@ fn drive_connect(
     let right = bits_of(alloc, wires, &connect.right)?;
     drivers.join(connect.line, left.as_slice(), right.as_slice());
     Ok(())
-}
-
-/// Ties the output of the kept cell of that number to the bits on its output port.
-fn drive_cell(
-    alloc: Global,
-    wires: &Wires<'_>,
-    cell: &Cell,
-    number: u32,
-    drivers: &mut Drivers,
-) -> Result<(), NoMemory>
-    requires good { AreGoodPorts wires.now.list.now cell.now.connects }
-    requires within { AreWithin wires.now.list.now }
-    requires size { length drivers.old.list.items ≡ bit_count wires.now.list.now }
-    ensures size { OnOk result (length drivers.new.list.items ≡ bit_count wires.now.list.now) }
-    ensures driven { OnOk result ((ds : List Drive) → HasDriven wires.now.list.now ds drivers.old
-        → HasDriven wires.now.list.now (ds ++ cell_drives wires.now.list.now number cell.now) drivers.new) }
-{
-    let Some(connect) = output_connect(cell) else {
-        return Ok(());
-    };
-    let bits = bits_of(alloc, wires, &connect.signal)?;
-    drivers.tie(connect.line, bits.as_slice(), number);
-    Ok(())
-}
-
-/// The connect of a cell's output port, where the cell's kind is known.
-pub fn output_connect(cell: &Cell) -> Option<&PortConnect>
-    ensures { option_copied result ≡ output_connect_of cell.now (kind_named cell.now.kind) }
-{
-    match kind_of(cell.kind.as_slice()) {
-        None => None,
-        Some(kind) => connect_of(cell, output_port(kind)),
-    }
 }

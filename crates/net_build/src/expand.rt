@@ -21,8 +21,29 @@ pub fn bits_of(
     ensures { IfOk result (λ bits. bits.items ≡ signal_bits wires.now.list.now signal.now) }
 {
     let mut bits = Vec::new(alloc);
-    push_bits(wires, signal, 0, width_of(wires, signal), &mut bits)?;
+    push_signal(wires, signal, &mut bits)?;
     Ok(bits)
+}
+
+/// Puts all bits of a signal behind others.
+pub fn push_signal(
+    wires: &Wires<'_>,
+    signal: &Signal,
+    bits: &mut Vec<SignalBit>,
+) -> Result<(), NoMemory>
+    requires { IsGood (shape wires.now.list.now signal.now) }
+    ensures { OnOk result (bits.new.items ≡ bits.old.items ++ signal_bits wires.now.list.now signal.now) }
+{
+    match signal {
+        Signal::Wire(name) => match wires.find(name.as_slice()) {
+            None => Ok(()),
+            Some(span) => push_nets(span.first, span.width, bits),
+        },
+        Signal::Slice { of, high, low } => {
+            push_bits(wires, of.get(), *low, *high - *low + 1, bits)
+        }
+        _ => push_bits(wires, signal, 0, width_of(wires, signal), bits),
+    }
 }
 
 /// Puts some bits of a signal behind others: so many, from the place on.

@@ -7,8 +7,9 @@ ghost use Rattle.std.specs.Option.{option_copied};
 ghost use Rattle.cell_kinds.specs.Names.{kind_named};
 ghost use Rattle.circuit_types.specs.Items.{is_kept as is_kept_cell, kept_cells, cells};
 ghost use Rattle.circuit_types.specs.Drives.{port_name, connect_of as connect_of_port};
-ghost use Rattle.circuit_types.specs.Nets.{begins_with_backslash as begins, is_unsupported as is_unsupported_cell, is_module as is_module_cell, port_link, item_links, links, lacks_port as lacks_a_port, is_port as is_port_of};
+ghost use Rattle.circuit_types.specs.Nets.{begins_with_backslash as begins, is_unsupported as is_unsupported_cell, is_module as is_module_cell, port_link, item_links, lacks_port as lacks_a_port, is_port as is_port_of};
 ghost use Rattle.net_build.specs.Faults.{earlier_of, AreFaults, refusal_in};
+ghost use Rattle.net_build.specs.Ports.{kind_in};
 ghost use Rattle.circuit_types.specs.declared.tree.Item.TheVariants as item;
 
 use crate::shape::shape_of;
@@ -28,7 +29,8 @@ pub struct Faults {
     pub missing: Option<u32>,
 }
 
-const NONE: Faults = Faults {
+/// Nothing is wrong.
+pub const NONE: Faults = Faults {
     too_wide: false,
     unsupported: None,
     hierarchy: None,
@@ -56,7 +58,8 @@ fn line_if(is_fault: bool, line: u32) -> Option<u32>
     if is_fault { Some(line) } else { None }
 }
 
-fn both(one: Faults, other: Faults) -> Faults
+/// What is wrong with two parts together.
+pub fn both(one: Faults, other: Faults) -> Faults
     ensures { result ≡ record {
       too_wide = one.too_wide || other.too_wide;
       unsupported = earlier_of one.unsupported other.unsupported;
@@ -78,24 +81,25 @@ fn both(one: Faults, other: Faults) -> Faults
     }
 }
 
-/// The faults of all items.
-pub fn faults_of(wires: &Wires<'_>, items: &[Item]) -> Faults
-    ensures { AreFaults (links wires.now.list.now items.now) (kept_cells items.now) result }
+/// The kind of the cell that the item may be, if it is known.
+pub fn kind_in(item: &Item) -> Option<CellKind>
+    ensures { result ≡ kind_in item.now }
 {
-    let mut faults = NONE;
-    for item in items {
-        faults = both(faults, item_faults(wires, item));
+    match item {
+        Item::Cell(cell) => kind_of(cell.kind.as_slice()),
+        _ => None,
     }
-    faults
 }
 
-fn item_faults(wires: &Wires<'_>, item: &Item) -> Faults
+/// What is wrong with an item, which is a cell of that kind if it is one.
+pub fn item_faults(wires: &Wires<'_>, item: &Item, kind: Option<CellKind>) -> Faults
+    requires { kind ≡ kind_in item.now }
     ensures { AreFaults (item_links wires.now.list.now item.now) (kept_cells (item.now ∷ [])) result }
 {
     match item {
         Item::Cell(cell) => {
             if is_kept(cell) {
-                cell_faults(wires, cell)
+                cell_faults(wires, cell, kind)
             } else {
                 NONE
             }
@@ -112,11 +116,11 @@ pub fn is_kept(cell: &Cell) -> bool
     cell.kind.as_slice() != b"$scopeinfo".as_slice()
 }
 
-fn cell_faults(wires: &Wires<'_>, cell: &Cell) -> Faults
-    requires { is_kept_cell cell.now ≡ true }
+fn cell_faults(wires: &Wires<'_>, cell: &Cell, kind: Option<CellKind>) -> Faults
+    requires kept { is_kept_cell cell.now ≡ true }
+    requires kind { kind ≡ kind_named cell.now.kind }
     ensures { AreFaults (item_links wires.now.list.now (item.Cell cell.now)) (cell.now ∷ []) result }
 {
-    let kind = kind_of(cell.kind.as_slice());
     let mut faults = kind_faults(cell, kind);
     for connect in cell.connects.as_slice() {
         faults = both(faults, port_faults(wires, kind, connect));

@@ -2,7 +2,7 @@
 //! back through the connects, and what its kept cells read.
 //!
 //! [`build`] gives the nets of the module that is verified, or the one refusal that is due. It looks at all limits,
-//! names, widths and ports before any signal is written out bit by bit; then at what drives each bit; then at where the
+//! names, widths and ports before any connect is written out bit by bit; then at what drives each bit; then at where the
 //! bits end, and so at what is read. [`name_of`] is the printed name of a bit.
 #![tactic(auto)]
 
@@ -16,6 +16,7 @@ mod laws;
 mod name;
 mod net_sources;
 mod nets;
+mod ports;
 mod reads;
 mod resolve;
 mod shape;

@@ -3,18 +3,17 @@
 ghost use Rattle.std.specs.Prelude.{◌≡◌, ◌<◌, ◌≤◌, ◌+◌, All, IfOk, IfErr, IsSome, length, slice_get};
 ghost use Rattle.circuit_types.specs.DataSources.{IsWired};
 ghost use Rattle.circuit_types.specs.Due.{IsClear, IsDue};
-ghost use Rattle.circuit_types.specs.Items.{top_items as top_items_of, items_of, net_wires};
-ghost use Rattle.circuit_types.specs.Nets.{most_bits, net_causes, AreNets};
+ghost use Rattle.circuit_types.specs.Items.{top_items as top_items_of, items_of, net_wires, cells, bit_count};
+ghost use Rattle.circuit_types.specs.Nets.{most_bits, most_cells, net_causes, AreNets};
 ghost use Rattle.circuit_types.specs.Top.{top_of};
 ghost use Rattle.circuit_types.specs.declared.nets.Nets.{Nets as AnyNets};
 ghost use Rattle.circuit_types.specs.declared.refusal.Refusal.{Refusal as AnyRefusal};
 ghost use Rattle.net_build.specs.Built.{IsAccepted, AreReadEnds, AnswersNets, AnswersRefusal};
-ghost use Rattle.net_build.specs.Form.{form_causes};
 ghost use Rattle.net_build.specs.Names.{printed_name};
 ghost use Rattle.net_build.specs.Stops.{IfRefused};
 
 use crate::cells::net_cells;
-use crate::form::checked_wires;
+use crate::form::{checked_ports, limited_wires};
 use crate::name::name_in;
 use crate::net_sources::net_sources;
 use crate::reads::{read_faults, read_refusal};
@@ -25,7 +24,7 @@ use std::alloc::Global;
 
 /// The nets of the module that is verified, or the refusal that is due.
 ///
-/// No signal is written out bit by bit before all limits, names, widths and ports are looked at.
+/// No connect is written out bit by bit before all limits, names, widths and ports are looked at.
 pub fn build(alloc: Global, tree: &Tree) -> Result<Nets, Stop>
     requires { IsSome (top_of tree.now) }
     // What is answered holds of the module.
@@ -69,7 +68,7 @@ fn nets_of(alloc: Global, items: &[Item]) -> Result<Nets, Stop>
     ensures nets { IfOk result (IsAccepted items.now) }
     ensures refused { IfErr result (λ stop. IfRefused stop (IsDue (net_causes items.now))) }
 {
-    let wires = checked_wires(alloc, items)?;
+    let wires = limited_wires(alloc, items)?;
     let (sources, cells) = sources_and_cells(alloc, wires.as_slice(), items)?;
     Ok(Nets {
         wires: Sequence::from_vec(wires),
@@ -78,7 +77,8 @@ fn nets_of(alloc: Global, items: &[Item]) -> Result<Nets, Stop>
     })
 }
 
-/// Where each bit ends, and the kept cells, or the refusal that is due by what drives bits and what is read.
+/// Where each bit ends, and the kept cells, or the refusal that is due by names, widths and ports, by what drives bits
+/// and by what is read.
 fn sources_and_cells(
     alloc: Global,
     list: &[NetWire],
@@ -86,14 +86,16 @@ fn sources_and_cells(
 ) -> Result<(Vec<Source>, Vec<NetCell>), Stop>
     requires wires { list.now ≡ net_wires items.now }
     requires within { All (λ w. w.first + w.width ≤ most_bits) list.now }
-    requires clear { IsClear (form_causes items.now) }
+    requires few_bits { bit_count list.now ≤ most_bits }
+    requires few_cells { length (cells items.now) ≤ most_cells }
     ensures nets { IfOk result (λ p.
         IsAccepted items.now (record { wires = list.now; sources = p.0.items; cells = p.1.items })) }
     ensures refused { IfErr result (λ stop. IfRefused stop (IsDue (net_causes items.now))) }
 {
     let wires = Wires::new(alloc, list)?;
-    let sources = net_sources(alloc, &wires, items)?;
-    let cells = net_cells(alloc, &wires, sources.as_slice(), items)?;
+    let ports = checked_ports(alloc, &wires, items)?;
+    let sources = net_sources(alloc, &wires, items, &ports)?;
+    let cells = net_cells(alloc, sources.as_slice(), &ports)?;
     let faults = read_faults(list, sources.as_slice(), cells.as_slice());
     if let Some(refusal) = read_refusal(faults) {
         return Err(Stop::Refused(refusal));

@@ -2,8 +2,8 @@
 use super::*;
 use cell_kinds::{CellKind, GateKind};
 use circuit_types::{
-    BitValue, Bits, Cell, Connect, Item, Module, Nets, Pin, Port, PortConnect, Refusal, Signal,
-    Source, Stop, Tree, Value, Which, Wire, top,
+    BitValue, Bits, Cell, Connect, Item, Module, NetCell, Nets, Pin, Port, PortConnect, Refusal,
+    Signal, Source, Stop, Tree, Value, Which, Wire, top,
 };
 use sequences::Sequence;
 use sqlite_items::{Boxed, Items};
@@ -14,191 +14,179 @@ use std::test::Fail;
 /// The connects of a cell, each a port's letter and a signal.
 type Connects = &'static [(u8, &'static [u8])];
 
+/// Signals, the most significant first.
+type Signals = &'static [&'static [u8]];
+
 /// One more statement, in short.
 #[derive(Clone, Copy)]
 enum More {
     Wire(&'static [u8], u32, Port),
     Connect(&'static [u8], &'static [u8]),
+    /// A connect of a join of signals and another.
+    Joins(Signals, Signals),
     Cell(&'static [u8], Connects),
     /// The next statement stands on this line.
     Line(u32),
-}
-
-/// A netlist in the making, statement by statement.
-#[derive(Drop)]
-struct Maker {
-    alloc: Global,
-    /// The line of the next statement.
-    line: u32,
-    items: Vec<Item>,
 }
 
 fn bytes(alloc: Global, text: &[u8]) -> Result<Sequence<u8>, AllocError> {
     Ok(Sequence::from_vec(Vec::from_slice(alloc, text)?))
 }
 
+/// A signal of one bit.
+fn bit(alloc: Global, written: u8) -> Result<Signal, AllocError> {
+    let bit = match written {
+        b'0' => BitValue::Zero,
+        b'1' => BitValue::One,
+        _ => BitValue::X,
+    };
+    Ok(Signal::Value(Value::Bits(Bits {
+        width: 1,
+        written: Sequence::from_vec(vec![in alloc; bit]?),
+    })))
+}
+
+/// A signal of one place of a wire.
+fn place(alloc: Global, name: &[u8], place: u32) -> Result<Signal, Fail> {
+    Ok(Signal::Slice {
+        of: Boxed::new(alloc, Signal::Wire(bytes(alloc, name)?)).map_err(AllocError::from)?,
+        high: place,
+        low: place,
+    })
+}
+
 /// A signal that is a wire's name, or, with a digit behind a comma, one of its places; or a bit behind `#`.
 fn signal(alloc: Global, text: &[u8]) -> Result<Signal, Fail> {
     match text {
-        [name @ .., b',', digit] => Ok(Signal::Slice {
-            of: Boxed::new(alloc, Signal::Wire(bytes(alloc, name)?)).map_err(AllocError::from)?,
-            high: u32::from(digit.wrapping_sub(b'0')),
-            low: u32::from(digit.wrapping_sub(b'0')),
-        }),
-        [b'#', written] => {
-            let bit = match written {
-                b'0' => BitValue::Zero,
-                b'1' => BitValue::One,
-                _ => BitValue::X,
-            };
-            let bits = Bits {
-                width: 1,
-                written: Sequence::from_vec(vec![in alloc; bit]?),
-            };
-            Ok(Signal::Value(Value::Bits(bits)))
-        }
+        [name @ .., b',', digit] => place(alloc, name, u32::from(digit.wrapping_sub(b'0'))),
+        [b'#', written] => Ok(bit(alloc, *written)?),
         _ => Ok(Signal::Wire(bytes(alloc, text)?)),
     }
 }
 
-impl Maker {
-    fn new(alloc: Global, line: u32) -> Maker {
-        Maker {
-            alloc,
+fn join(alloc: Global, texts: &[&[u8]]) -> Result<Signal, Fail> {
+    let mut parts = Items::new(alloc);
+    for text in texts {
+        parts.push(signal(alloc, text)?).map_err(AllocError::from)?;
+    }
+    Ok(Signal::Join(parts))
+}
+
+fn wire(alloc: Global, line: u32, name: &[u8], width: u32, port: Port) -> Result<Item, AllocError> {
+    Ok(Item::Wire(Wire {
+        line,
+        name: bytes(alloc, name)?,
+        attributes: Sequence::from_vec(Vec::new(alloc)),
+        width,
+        offset: 0,
+        port,
+        upto: false,
+        signed: false,
+    }))
+}
+
+fn connect(line: u32, left: Signal, right: Signal) -> Item {
+    Item::Connect(Connect { line, left, right })
+}
+
+/// The connects of a cell at this line, on the lines behind it.
+fn port_connects(alloc: Global, line: u32, texts: Connects) -> Result<Vec<PortConnect>, Fail> {
+    let mut line = line;
+    let mut connects = Vec::new(alloc);
+    for (letter, text) in texts {
+        line = line.wrapping_add(1);
+        let connect = PortConnect {
             line,
-            items: Vec::new(alloc),
-        }
-    }
-
-    fn wire(&mut self, name: &[u8], width: u32, port: Port) -> Result<(), Fail> {
-        let wire = Wire {
-            line: self.line,
-            name: bytes(self.alloc, name)?,
-            attributes: Sequence::from_vec(Vec::new(self.alloc)),
-            width,
-            offset: 0,
-            port,
-            upto: false,
-            signed: false,
+            port: bytes(alloc, &[b'\\', *letter])?,
+            signal: signal(alloc, text)?,
         };
-        self.items.push(Item::Wire(wire)).map_err(AllocError::from)?;
-        self.line = self.line.wrapping_add(1);
-        Ok(())
+        connects.push(connect).map_err(AllocError::from)?;
     }
+    Ok(connects)
+}
 
-    fn connect(&mut self, left: Signal, right: Signal) -> Result<(), Fail> {
-        let connect = Connect {
-            line: self.line,
-            left,
-            right,
-        };
-        self.items
-            .push(Item::Connect(connect))
-            .map_err(AllocError::from)?;
-        self.line = self.line.wrapping_add(1);
-        Ok(())
-    }
+fn cell(alloc: Global, line: u32, kind: &[u8], texts: Connects) -> Result<Item, Fail> {
+    let connects = port_connects(alloc, line, texts)?;
+    Ok(Item::Cell(Cell {
+        line,
+        kind: bytes(alloc, kind)?,
+        name: bytes(alloc, b"$c")?,
+        attributes: Sequence::from_vec(Vec::new(alloc)),
+        parameters: Sequence::from_vec(Vec::new(alloc)),
+        connects: Sequence::from_vec(connects),
+    }))
+}
 
-    /// A cell with its connects on the lines after it, and its end.
-    fn cell(&mut self, kind: &[u8], connects: &[(u8, &[u8])]) -> Result<(), Fail> {
-        let line = self.line;
-        let mut ports = Vec::new(self.alloc);
-        for (letter, text) in connects {
-            self.line = self.line.wrapping_add(1);
-            let connect = PortConnect {
-                line: self.line,
-                port: bytes(self.alloc, &[b'\\', *letter])?,
-                signal: signal(self.alloc, text)?,
-            };
-            ports.push(connect).map_err(AllocError::from)?;
+/// The statement at this line, if there is one.
+fn item(alloc: Global, line: u32, statement: More) -> Result<Option<Item>, Fail> {
+    let item = match statement {
+        More::Wire(name, width, port) => wire(alloc, line, name, width, port)?,
+        More::Connect(left, right) => connect(line, signal(alloc, left)?, signal(alloc, right)?),
+        More::Joins(left, right) => connect(line, join(alloc, left)?, join(alloc, right)?),
+        More::Cell(kind, texts) => cell(alloc, line, kind, texts)?,
+        More::Line(_) => return Ok(None),
+    };
+    Ok(Some(item))
+}
+
+/// The line of the statement behind one at this line. A cell has its connects on the lines after it, and its end.
+fn line_behind(line: u32, statement: More) -> u32 {
+    match statement {
+        More::Cell(_, texts) => {
+            let connects = u32::try_from(texts.len()).unwrap_or(0);
+            line.wrapping_add(connects).wrapping_add(2)
         }
-        let cell = Cell {
-            line,
-            kind: bytes(self.alloc, kind)?,
-            name: bytes(self.alloc, b"$c")?,
-            attributes: Sequence::from_vec(Vec::new(self.alloc)),
-            parameters: Sequence::from_vec(Vec::new(self.alloc)),
-            connects: Sequence::from_vec(ports),
-        };
-        self.items.push(Item::Cell(cell)).map_err(AllocError::from)?;
-        self.line = self.line.wrapping_add(2);
-        Ok(())
-    }
-
-    fn more(&mut self, statement: More) -> Result<(), Fail> {
-        match statement {
-            More::Wire(name, width, port) => self.wire(name, width, port),
-            More::Connect(left, right) => {
-                let left = signal(self.alloc, left)?;
-                let right = signal(self.alloc, right)?;
-                self.connect(left, right)
-            }
-            More::Cell(kind, connects) => self.cell(kind, connects),
-            More::Line(line) => {
-                self.line = line;
-                Ok(())
-            }
-        }
-    }
-
-    fn all_more(&mut self, statements: &[More]) -> Result<(), Fail> {
-        for statement in statements {
-            self.more(*statement)?;
-        }
-        Ok(())
-    }
-
-    /// A signal that joins these, the most significant first.
-    fn join_of(&self, texts: &[&[u8]]) -> Result<Signal, Fail> {
-        let mut parts = Items::new(self.alloc);
-        for text in texts {
-            parts
-                .push(signal(self.alloc, text)?)
-                .map_err(AllocError::from)?;
-        }
-        Ok(Signal::Join(parts))
-    }
-
-    /// The tree of one module with these statements.
-    fn tree(self) -> Result<Tree, Fail> {
-        let Maker {
-            alloc,
-            line: _,
-            items,
-        } = self;
-        let unit = Module {
-            line: 5,
-            name: bytes(alloc, b"\\m")?,
-            attributes: Sequence::from_vec(Vec::new(alloc)),
-            items: Sequence::from_vec(items),
-        };
-        Ok(Tree {
-            modules: Sequence::from_vec(vec![in alloc; unit]?),
-        })
-    }
-
-    fn nets(self) -> Result<Result<Nets, Refusal>, Fail> {
-        let alloc = self.alloc;
-        let tree = self.tree()?;
-        if top(&tree).is_none() {
-            return Err(Fail::from("no top module"));
-        }
-        match build(alloc, &tree) {
-            Ok(nets) => Ok(Ok(nets)),
-            Err(Stop::Refused(refusal)) => Ok(Err(refusal)),
-            Err(Stop::NoMemory) => Err(Fail::from("no memory")),
-        }
-    }
-
-    fn refusal(self) -> Result<Option<Refusal>, Fail> {
-        match self.nets()? {
-            Ok(_) => Ok(None),
-            Err(refusal) => Ok(Some(refusal)),
-        }
+        More::Line(line) => line,
+        _ => line.wrapping_add(1),
     }
 }
 
-const PORTS: [More; 9] = [
+/// Statements from a line on, behind others; answers the line of the next one.
+fn push(alloc: Global, line: u32, statements: &[More], items: &mut Vec<Item>) -> Result<u32, Fail> {
+    let mut line = line;
+    for statement in statements {
+        if let Some(item) = item(alloc, line, *statement)? {
+            items.push(item).map_err(AllocError::from)?;
+        }
+        line = line_behind(line, *statement);
+    }
+    Ok(line)
+}
+
+/// The tree of one module with these statements.
+fn tree(alloc: Global, items: Vec<Item>) -> Result<Tree, AllocError> {
+    let unit = Module {
+        line: 5,
+        name: bytes(alloc, b"\\m")?,
+        attributes: Sequence::from_vec(Vec::new(alloc)),
+        items: Sequence::from_vec(items),
+    };
+    Ok(Tree {
+        modules: Sequence::from_vec(vec![in alloc; unit]?),
+    })
+}
+
+/// What is built of the module with these statements.
+fn built(alloc: Global, items: Vec<Item>) -> Result<Result<Nets, Refusal>, Fail> {
+    let tree = tree(alloc, items)?;
+    if top(&tree).is_none() {
+        return Err(Fail::from("no top module"));
+    }
+    match build(alloc, &tree) {
+        Ok(nets) => Ok(Ok(nets)),
+        Err(Stop::Refused(refusal)) => Ok(Err(refusal)),
+        Err(Stop::NoMemory) => Err(Fail::from("no memory")),
+    }
+}
+
+fn nets(built: Result<Nets, Refusal>) -> Result<Nets, Fail> {
+    match built {
+        Ok(nets) => Ok(nets),
+        Err(_) => Err(Fail::from("refused")),
+    }
+}
+
+const PORTS: [More; 10] = [
     More::Wire(b"\\x0", 1, Port::Input(1)),
     More::Line(9),
     More::Wire(b"\\x1", 1, Port::Input(2)),
@@ -208,20 +196,21 @@ const PORTS: [More; 9] = [
     More::Wire(b"\\y0", 1, Port::Output(4)),
     More::Line(15),
     More::Wire(b"\\y1", 1, Port::Output(5)),
+    More::Cell(b"$_XOR_", FIRST),
 ];
 
 const FIRST: Connects = &[(b'A', b"\\x0"), (b'B', b"\\r"), (b'Y', b"\\y0")];
 
 const SECOND: Connects = &[(b'A', b"\\x1"), (b'B', b"\\r"), (b'Y', b"\\y1")];
 
-/// Two shares refreshed by one random: wires from line 7 on, cells at 16 and 21 with their connects behind them. The
-/// next statement stands at line 26.
-fn refresh(alloc: Global, second: Connects) -> Result<Maker, Fail> {
-    let mut maker = Maker::new(alloc, 7);
-    maker.all_more(&PORTS)?;
-    maker.cell(b"$_XOR_", FIRST)?;
-    maker.cell(b"$_XOR_", second)?;
-    Ok(maker)
+/// Two shares refreshed by one random, the second by a cell with these connects, and then these statements: wires from
+/// line 7 on, cells at 16 and 21 with their connects behind them, and the further statements from 26 on.
+fn refresh(alloc: Global, second: Connects, more: &[More]) -> Result<Result<Nets, Refusal>, Fail> {
+    let mut items = Vec::new(alloc);
+    let line = push(alloc, 7, &PORTS, &mut items)?;
+    let line = push(alloc, line, &[More::Cell(b"$_XOR_", second)], &mut items)?;
+    push(alloc, line, more, &mut items)?;
+    built(alloc, items)
 }
 
 /// The connects of the second cell, what stands behind it, and the refusal that is due.
@@ -464,9 +453,7 @@ const FORM_CASES: [Case; 12] = [
 
 fn refuses(rt: &impl Abort, alloc: Global, cases: &[Case]) -> Result<(), Fail> {
     for (second, more, expected) in cases {
-        let mut maker = refresh(alloc, second)?;
-        maker.all_more(more)?;
-        assert_eq!(rt; maker.refusal()?, *expected);
+        assert_eq!(rt; refresh(alloc, second, more)?.err(), *expected);
     }
     Ok(())
 }
@@ -478,95 +465,182 @@ fn refuses_what_is_due(rt: HostRuntime) -> Result<(), Fail> {
     refuses(&rt, rt.alloc(), &FORM_CASES)
 }
 
-#[test]
-fn keeps_the_limits(rt: HostRuntime) -> Result<(), Fail> {
-    let mut maker = Maker::new(rt.alloc(), 6);
-    maker.wire(b"\\w", 1_048_576, Port::Inner)?;
-    assert_eq!(rt; maker.refusal()?, None);
-
-    let mut maker = Maker::new(rt.alloc(), 6);
-    maker.wire(b"\\w", 1_048_576, Port::Inner)?;
-    maker.wire(b"\\v", 1, Port::Inner)?;
-    assert_eq!(rt; maker.refusal()?, Some(Refusal::Limit(Which::NetBits)));
-
+/// Statements from line 6 on, and the refusal that is due.
+const LIMIT_CASES: [(&[More], Option<Refusal>); 4] = [
+    (&[More::Wire(b"\\w", 1_048_576, Port::Inner)], None),
+    (
+        &[
+            More::Wire(b"\\w", 1_048_576, Port::Inner),
+            More::Wire(b"\\v", 1, Port::Inner),
+        ],
+        Some(Refusal::Limit(Which::NetBits)),
+    ),
     // A signal as wide as one may be, and one bit more.
-    let sides: [(&[&[u8]], &[&[u8]], Option<Refusal>); 2] = [
-        (&[b"\\v", b"\\w"], &[b"\\w", b"\\v"], None),
-        (
-            &[b"\\v", b"\\w", b"#0"],
-            &[b"#0", b"\\w", b"\\v"],
-            Some(Refusal::Limit(Which::SignalWidth)),
-        ),
-    ];
-    for (left, right, refusal) in sides {
-        let mut maker = Maker::new(rt.alloc(), 6);
-        maker.wire(b"\\v", 524_288, Port::Inner)?;
-        maker.wire(b"\\w", 524_288, Port::Inner)?;
-        let left = maker.join_of(left)?;
-        let right = maker.join_of(right)?;
-        maker.connect(left, right)?;
-        assert_eq!(rt; maker.refusal()?, refusal);
+    (
+        &[
+            More::Wire(b"\\v", 524_288, Port::Inner),
+            More::Wire(b"\\w", 524_288, Port::Inner),
+            More::Joins(&[b"\\v", b"\\w"], &[b"\\w", b"\\v"]),
+        ],
+        None,
+    ),
+    (
+        &[
+            More::Wire(b"\\v", 524_288, Port::Inner),
+            More::Wire(b"\\w", 524_288, Port::Inner),
+            More::Joins(&[b"\\v", b"\\w", b"#0"], &[b"#0", b"\\w", b"\\v"]),
+        ],
+        Some(Refusal::Limit(Which::SignalWidth)),
+    ),
+];
+
+fn limits(
+    rt: &impl Abort,
+    alloc: Global,
+    cases: &[(&[More], Option<Refusal>)],
+) -> Result<(), Fail> {
+    for (statements, expected) in cases {
+        let mut items = Vec::new(alloc);
+        push(alloc, 6, statements, &mut items)?;
+        assert_eq!(rt; built(alloc, items)?.err(), *expected);
     }
     Ok(())
 }
 
 #[test]
+fn keeps_the_limits(rt: HostRuntime) -> Result<(), Fail> {
+    limits(&rt, rt.alloc(), &LIMIT_CASES)
+}
+
+const FOLLOWED: [More; 6] = [
+    More::Cell(b"$scopeinfo", &[]),
+    More::Wire(b"\\v", 2, Port::Inner),
+    More::Connect(b"\\v,0", b"\\y1"),
+    More::Connect(b"\\v,1", b"#1"),
+    More::Wire(b"\\m", 1, Port::Inner),
+    More::Cell(
+        b"$_MUX_",
+        &[
+            (b'S', b"\\r"),
+            (b'Y', b"\\m"),
+            (b'B', b"\\v,1"),
+            (b'A', b"\\v,0"),
+        ],
+    ),
+];
+
+const SOURCES: [Source; 8] = [
+    Source::Input(0),
+    Source::Input(1),
+    Source::Input(2),
+    Source::Cell(0),
+    Source::Cell(1),
+    Source::Cell(1),
+    Source::One,
+    Source::Cell(2),
+];
+
+/// A cell's line, its gate, the bit on its output, and what its inputs read.
+type NetGate = (u32, GateKind, u32, &'static [Pin]);
+
+const GATES: [NetGate; 3] = [
+    (
+        16,
+        GateKind::Xor,
+        3,
+        &[
+            Pin {
+                line: 17,
+                source: Source::Input(0),
+            },
+            Pin {
+                line: 18,
+                source: Source::Input(2),
+            },
+        ],
+    ),
+    (
+        21,
+        GateKind::Xor,
+        4,
+        &[
+            Pin {
+                line: 22,
+                source: Source::Input(1),
+            },
+            Pin {
+                line: 23,
+                source: Source::Input(2),
+            },
+        ],
+    ),
+    (
+        32,
+        GateKind::Mux,
+        7,
+        &[
+            Pin {
+                line: 36,
+                source: Source::Cell(1),
+            },
+            Pin {
+                line: 35,
+                source: Source::One,
+            },
+            Pin {
+                line: 33,
+                source: Source::Input(2),
+            },
+        ],
+    ),
+];
+
+fn is_gate(cell: &NetCell, expected: &NetGate) -> bool {
+    let (line, gate, output, pins) = expected;
+    cell.line == *line
+        && cell.kind == CellKind::Gate(*gate)
+        && cell.output == *output
+        && cell.pins.as_slice() == *pins
+}
+
+fn are_gates(cells: &[NetCell], expected: &[NetGate]) -> bool {
+    for (cell, gate) in cells.iter().zip(expected) {
+        if !is_gate(cell, gate) {
+            return false;
+        }
+    }
+    cells.len() == expected.len()
+}
+
+#[test]
 fn follows_bits_to_their_ends(rt: HostRuntime) -> Result<(), Fail> {
-    let mut maker = refresh(rt.alloc(), SECOND)?;
-    maker.all_more(&[
-        More::Cell(b"$scopeinfo", &[]),
-        More::Wire(b"\\v", 2, Port::Inner),
-        More::Connect(b"\\v,0", b"\\y1"),
-        More::Connect(b"\\v,1", b"#1"),
-        More::Wire(b"\\m", 1, Port::Inner),
-        More::Cell(
-            b"$_MUX_",
-            &[
-                (b'S', b"\\r"),
-                (b'Y', b"\\m"),
-                (b'B', b"\\v,1"),
-                (b'A', b"\\v,0"),
-            ],
-        ),
-    ])?;
-    let Ok(nets) = maker.nets()? else {
-        return Err(Fail::from("refused"));
-    };
-    let sources = [
-        Source::Input(0),
-        Source::Input(1),
-        Source::Input(2),
-        Source::Cell(0),
-        Source::Cell(1),
-        Source::Cell(1),
-        Source::One,
-        Source::Cell(2),
-    ];
-    assert_eq!(rt; nets.sources.as_slice(), sources.as_slice());
-    let [first, second, mux] = nets.cells.as_slice() else {
-        return Err(Fail::from("not three cells"));
-    };
-    assert_eq!(rt; (first.line, first.output), (16, 3));
-    assert_eq!(rt; (second.line, second.output), (21, 4));
-    assert_eq!(rt; (mux.line, mux.output), (32, 7));
-    assert_eq!(rt; mux.kind, CellKind::Gate(GateKind::Mux));
-    let pins = [
-        Pin {
-            line: 36,
-            source: Source::Cell(1),
-        },
-        Pin {
-            line: 35,
-            source: Source::One,
-        },
-        Pin {
-            line: 33,
-            source: Source::Input(2),
-        },
-    ];
-    assert_eq!(rt; mux.pins.as_slice(), pins.as_slice());
+    let nets = nets(refresh(rt.alloc(), SECOND, &FOLLOWED)?)?;
+    assert_eq!(rt; nets.sources.as_slice(), SOURCES.as_slice());
+    assert!(rt; are_gates(nets.cells.as_slice(), &GATES));
     Ok(())
 }
+
+const NAMED: [More; 5] = [
+    More::Wire(b"\\v", 2, Port::Inner),
+    More::Wire(b"$v", 0, Port::Inner),
+    More::Wire(b"\\w[0]", 12, Port::Inner),
+    More::Wire(b"\\$auto", 1, Port::Inner),
+    More::Wire(b"$1", 1, Port::Inner),
+];
+
+/// Bits with their printed names; a name is empty where the netlist has no such bit.
+const NAMES: [(u32, &[u8]); 10] = [
+    (0, b"x0"),
+    (3, b"y0"),
+    (5, b"v[0]"),
+    (6, b"v[1]"),
+    (7, b"w[0][0]"),
+    (18, b"w[0][11]"),
+    (19, b"$auto"),
+    (20, b"$1"),
+    (21, b""),
+    (u32::MAX, b""),
+];
 
 /// The printed name of a bit; it is empty where the netlist has no such bit.
 fn name(alloc: Global, nets: &Nets, bit: u32) -> Result<Vec<u8>, AllocError> {
@@ -576,34 +650,20 @@ fn name(alloc: Global, nets: &Nets, bit: u32) -> Result<Vec<u8>, AllocError> {
     name_of(alloc, nets, bit)
 }
 
-#[test]
-fn names_the_bits_of_wires(rt: HostRuntime) -> Result<(), Fail> {
-    let alloc = rt.alloc();
-    let mut maker = refresh(alloc, SECOND)?;
-    maker.all_more(&[
-        More::Wire(b"\\v", 2, Port::Inner),
-        More::Wire(b"$v", 0, Port::Inner),
-        More::Wire(b"\\w[0]", 12, Port::Inner),
-        More::Wire(b"\\$auto", 1, Port::Inner),
-        More::Wire(b"$1", 1, Port::Inner),
-    ])?;
-    let Ok(nets) = maker.nets()? else {
-        return Err(Fail::from("refused"));
-    };
-    let names: [(u32, &[u8]); 10] = [
-        (0, b"x0"),
-        (3, b"y0"),
-        (5, b"v[0]"),
-        (6, b"v[1]"),
-        (7, b"w[0][0]"),
-        (18, b"w[0][11]"),
-        (19, b"$auto"),
-        (20, b"$1"),
-        (21, b""),
-        (u32::MAX, b""),
-    ];
+fn check_names(
+    rt: &impl Abort,
+    alloc: Global,
+    nets: &Nets,
+    names: &[(u32, &[u8])],
+) -> Result<(), Fail> {
     for (bit, expected) in names {
-        assert_eq!(rt; name(alloc, &nets, bit)?.as_slice(), expected);
+        assert_eq!(rt; name(alloc, nets, *bit)?.as_slice(), *expected);
     }
     Ok(())
+}
+
+#[test]
+fn names_the_bits_of_wires(rt: HostRuntime) -> Result<(), Fail> {
+    let nets = nets(refresh(rt.alloc(), SECOND, &NAMED)?)?;
+    check_names(&rt, rt.alloc(), &nets, &NAMES)
 }

@@ -5,13 +5,13 @@ ghost use Rattle.circuit_types.specs.Items.{net_wires as net_wires_of, numbered,
 ghost use Rattle.circuit_types.specs.Nets.{most_bits};
 ghost use Rattle.circuit_types.specs.declared.refusal.Refusal.TheVariants.{Limit};
 ghost use Rattle.circuit_types.specs.declared.refusal.Which.TheVariants.{NetBits};
-ghost use Rattle.net_build.specs.Spans.{KnowsSpans, span_named};
+ghost use Rattle.net_build.specs.Spans.{KnowsSpans, span_named, span_of};
 ghost use Rattle.net_build.specs.Stops.{IfRefused};
 
 use circuit_types::{Item, NetWire, NoMemory, Refusal, Stop, Which, Wire};
+use name_table::NameTable;
 use sequences::Sequence;
 use std::alloc::Global;
-use std::collections::BTreeMap;
 
 /// The most bits that all wires may have together.
 pub const MOST_BITS: u32 = 1_048_576;
@@ -27,7 +27,7 @@ pub struct Span {
 #[derive(Drop)]
 pub struct Wires<'a> {
     pub list: &'a [NetWire],
-    spans: BTreeMap<&'a [u8], Span>,
+    spans: NameTable<'a, Span>,
     ghost within: { All (λ w. w.first + w.width ≤ most_bits) list.now },
     ghost known: { KnowsSpans list.now spans },
 }
@@ -37,16 +37,9 @@ impl<'a> Wires<'a> {
         requires { All (λ w. w.first + w.width ≤ most_bits) list.now }
         ensures { IfOk result (λ wires. wires.list.now ≡ list.now) }
     {
-        let mut spans = BTreeMap::new(alloc);
-        let mut k = list.len();
-        while k > 0 {
-            k -= 1;
-            let wire = &list[k];
-            let span = Span {
-                first: wire.first,
-                width: wire.width,
-            };
-            spans.insert(wire.name.as_slice(), span)?;
+        let mut spans = NameTable::new(alloc);
+        for wire in list {
+            spans.add(wire.name.as_slice(), span_of(wire))?;
         }
         Ok(Wires { list, spans })
     }
@@ -56,7 +49,16 @@ impl<'a> Wires<'a> {
         ensures named { result ≡ span_named self.now.list.now name.now }
         ensures within { IfSome result (λ span. span.first + span.width ≤ most_bits) }
     {
-        self.spans.get(name).copied()
+        self.spans.find(name)
+    }
+}
+
+fn span_of(wire: &NetWire) -> Span
+    ensures { result ≡ span_of wire.now }
+{
+    Span {
+        first: wire.first,
+        width: wire.width,
     }
 }
 

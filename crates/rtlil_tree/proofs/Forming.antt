@@ -16,7 +16,7 @@ use Rattle.rtlil_tree.specs.declared.options.Options.{Options}
 use Rattle.rtlil_tree.specs.Lexemes.{Lexeme, key, id, constant}
 use Rattle.rtlil_tree.specs.Statements.{Statement, IsStatement, IsWire, AreSignals, option_lexemes, options_said, port_said, optional, form_lexemes}
 use Rattle.rtlil_tree.specs.Said.{◌>>=◌}
-use Rattle.rtlil_tree.specs.Forms.{constant_of, FileForm, WireForm, ModuleForm, CellForm, attribute_of, autoidx_of, begins_of, file_form_of, parameter_with, module_parameter_of, wire_of, cell_of, one_of, two_of, connect_of, end_of, module_form_of, parameter_form_of, cell_parameter_of, port_connect_of, cell_form_of, signals_of}
+use Rattle.rtlil_tree.specs.Forms.{constant_of, FileForm, WireForm, ModuleForm, CellForm, attribute_of, autoidx_of, begins_of, file_form_of, parameter_with, module_parameter_of, wire_of, cell_of, one_of, two_of, connect_of, end_of, module_form_of, parameter_form_of, cell_parameter_of, port_connect_of, cell_form_of, signals_of, only_signal}
 use Rattle.rtlil_tree.specs.Machine.{wire_made, module_begun, cell_begun, connect_made}
 use Rattle.rtlil_tree.specs.Placed.{input_of, output_of, wire_form, file_form, module_form, cell_form, IsOnLine, IsWireForm}
 use Rattle.rtlil_tree.proofs.Binding.{bound, mapped, once}
@@ -258,10 +258,10 @@ cell_parameter_words line xs p e =
 
 port_words : (line : ℕ) (xs : List Lexeme) (f : CellForm) → port_connect_of xs ≡ Some f → IsCellWords f line (key word.Connect ∷ xs)
 port_words line (id name ∷ xs) f e =
-    let b = bound (signals_of xs) (λ ss. one_of ss >>= λ s. Some (CellForm.port_connect name s)) f e in
-    let d = bound (one_of b.0) (λ s. Some (CellForm.port_connect name s)) f b.2 in
-    subst (λ (g : CellForm). IsCellWords g line (key word.Connect ∷ id name ∷ xs)) (once (CellForm.port_connect name d.0) f d.2)
-    (xs, refl, are_if_signals (d.0 ∷ []) xs (b.1 ∙ ap (λ (l : List Signal). Some l) (one_words b.0 d.0 d.1)))
+    let b = bound (only_signal xs) (λ s. Some (CellForm.port_connect name s)) f e in
+    let d = bound (signals_of xs) one_of b.0 b.1 in
+    subst (λ (g : CellForm). IsCellWords g line (key word.Connect ∷ id name ∷ xs)) (once (CellForm.port_connect name b.0) f b.2)
+    (xs, refl, are_if_signals (b.0 ∷ []) xs (d.1 ∙ ap (λ (l : List Signal). Some l) (one_words d.0 b.0 d.2)))
 port_words line xs f e = absurd cc
 
 cell_parameter_form_words : (line : ℕ) (xs : List Lexeme) (f : CellForm) → option_map CellForm.cell_parameter (cell_parameter_of line xs) ≡ Some f → IsCellWords f line (key word.Parameter ∷ xs)
@@ -293,7 +293,7 @@ cell_parameter_is line xs p h =
 port_is : (line : ℕ) (xs : List Lexeme) (name : List ℕ) (s : Signal) (signals : List Lexeme) → xs ≡ key word.Connect ∷ id name ∷ signals → AreSignals (s ∷ []) signals → cell_form_of line xs ≡ Some (CellForm.port_connect name s)
 port_is line xs name s signals is h =
     ap (cell_form_of line) is
-    ∙ ap (λ (o : Option (List Signal)). o >>= λ ss. one_of ss >>= λ x. Some (CellForm.port_connect name x)) (signals_if_are (s ∷ []) signals h)
+    ∙ ap (λ (o : Option (List Signal)). (o >>= one_of) >>= λ x. Some (CellForm.port_connect name x)) (signals_if_are (s ∷ []) signals h)
 
 pub is_cell_statement : (s : Statement) (f : CellForm) (line : ℕ) (xs : List Lexeme) → cell_form s ≡ Some f → IsStatement s line xs ↔ (IsOnLine s line × (cell_form_of line xs ≡ Some f))
 is_cell_statement (Statement.cell_parameter q) f line xs e = (λ h. (h.0, cell_parameter_is line xs q h ∙ e), λ p. cell_words line xs (CellForm.cell_parameter q) (p.1 ∙ sym e))

@@ -28,3 +28,4 @@ pub mod Completing
 pub mod Fresh
 pub mod Refusing
 pub mod Standing
+pub mod OneBit

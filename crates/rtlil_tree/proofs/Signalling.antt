@@ -34,7 +34,7 @@ join_pieces parts = ap pieces_of (sym (signal.rolls-Join parts)) ∙ fold-roll-S
 value_nesting : (v : Value) → nesting_of (signal.Value v) ≡ 0
 value_nesting v = ap nesting_of (sym (signal.rolls-Value v)) ∙ fold-roll-Signal ℕ nesting_step (Signal-F.Value v)
 
-wire_nesting : (name : List ℕ) → nesting_of (signal.Wire name) ≡ 0
+pub wire_nesting : (name : List ℕ) → nesting_of (signal.Wire name) ≡ 0
 wire_nesting name = ap nesting_of (sym (signal.rolls-Wire name)) ∙ fold-roll-Signal ℕ nesting_step (Signal-F.Wire name)
 
 slice_nesting : (of : Signal) (high low : ℕ) → nesting_of (signal.Slice of high low) ≡ 1 + nesting_of of

@@ -282,9 +282,22 @@ parameter_form_of xs = (form.Plain, xs)
 abbrev pub cell_parameter_of : ℕ → List Lexeme → Option Parameter
 cell_parameter_of line xs = attribute_of (parameter_form_of xs).1 >>= λ a. Some (parameter_with line (parameter_form_of xs).0 a.name (Some a.value))
 
+-- the bit of a wire at a place
+abbrev pub one_bit : List ℕ → ℕ → Signal
+one_bit name place = signal.Slice (signal.Wire name) place place
+
+-- the wire and the place, where the words are a bit of a wire
+abbrev pub wire_bit : List Lexeme → Option (List ℕ × ℕ)
+wire_bit (id name ∷ open_slice ∷ constant (value.Number z) ∷ close_slice ∷ []) = place_of z >>= λ place. Some (name, place)
+wire_bit xs = None
+
+-- the only signal that the words are
+abbrev pub only_signal : List Lexeme → Option Signal
+only_signal xs = signals_of xs >>= one_of
+
 -- what follows `connect` in a cell
 abbrev pub port_connect_of : List Lexeme → Option CellForm
-port_connect_of (id port ∷ xs) = signals_of xs >>= λ ss. one_of ss >>= λ s. Some (port_connect port s)
+port_connect_of (id port ∷ xs) = only_signal xs >>= λ s. Some (port_connect port s)
 port_connect_of xs = None
 
 abbrev pub cell_form_of : ℕ → List Lexeme → Option CellForm

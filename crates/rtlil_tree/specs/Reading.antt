@@ -1,5 +1,5 @@
 -- What the parts of the reader answer, in the words of Machine.antt.
-use Rattle.std.specs.Prelude.{◌≡◌, ℕ, List, [], ◌∷◌, ◌++◌, length, ◌⊎◌, Result, Ok, Err, Option, Some, None}
+use Rattle.std.specs.Prelude.{◌≡◌, ℕ, drop, List, [], ◌∷◌, ◌++◌, length, ◌⊎◌, Result, Ok, Err, Option, Some, None}
 use Rattle.rtlil_lex.specs.Tokens.{AreTokens, HasFault, line_at}
 use Rattle.rtlil_lex.specs.declared.token.Token.{Token}
 use Rattle.rtlil_lex.specs.declared.fault.LexFault.{LexFault}
@@ -80,9 +80,13 @@ with_parts c ps cs = record c { parameters = ps; connects = cs }
 abbrev pub with_item : Module → Item → Module
 with_item m i = with_items m (m.items ++ i ∷ [])
 
--- the ports that were seen are those that are connected
+-- the names behind the first eight
+abbrev pub late : List (List ℕ) → List (List ℕ)
+late names = drop 8 names
+
+-- the ports that stand in the set are those of the connects behind the first ones
 abbrev pub HasItsPorts : CellBody → Type 0
-HasItsPorts b = HaveSameNames b.ports (port_names b.connects.items)
+HasItsPorts b = HaveSameNames b.ports (late (port_names b.connects.items))
 
 -- the statement of a cell on this line
 abbrev pub ReadsCellLine : Result CellStatement Stop → Line → Type 0

@@ -1,25 +1,34 @@
 //! The statements of a cell.
 
-ghost use Rattle.std.specs.Prelude.{◌≡◌, ◌≤◌, [], length, OnOk, Some};
+ghost use Rattle.std.specs.Prelude.{◌≡◌, ◌≤◌, [], ◌∷◌, ◌++◌, not, length, IfOk, OnOk, IsTrue, Some};
+ghost use Rattle.std.specs.List.{list_any};
+ghost use Rattle.std.specs.Str.{bytes_eq};
+ghost use Rattle.circuit_types.specs.declared.tree.PortConnect.{PortConnect as AnyConnect};
+ghost use Rattle.rtlil_tree.specs.Names.{is_among, port_names};
+ghost use Rattle.rtlil_tree.specs.Seen.{HaveSameNames};
 ghost use Rattle.rtlil_tree.specs.Said.{Gives};
 ghost use Rattle.rtlil_tree.specs.Forms.{cell_view, port_connect};
 ghost use Rattle.rtlil_tree.specs.Cursor.{line_view, left_of};
-ghost use Rattle.rtlil_tree.specs.Reading.{form_in_cell, HasItsPorts, ReadsCellLine, CellStepsTo, ReadsCell};
+ghost use Rattle.rtlil_tree.specs.Reading.{form_in_cell, late, HasItsPorts, ReadsCellLine, CellStepsTo, ReadsCell};
 
 use crate::constant::copy;
 use crate::line::{Line, Lines};
 use crate::misfit::{Misfit, answer_at, bad_form};
 use crate::names::Names;
 use crate::statements::{CellStatement, cell_statement};
-use circuit_types::{Parameter, PortConnect, Signal, Stop};
+use crate::word::Word;
+use circuit_types::{NoMemory, Parameter, PortConnect, Signal, Stop};
 use std::alloc::Global;
+
+/// So many connects of a cell are gone through for a port; the ports of further ones stand in a set.
+const MOST_FEW: usize = 8;
 
 /// What stands in a cell, as far as it is read.
 #[derive(Drop)]
 pub struct CellBody<'a> {
     pub parameters: Vec<Parameter>,
     pub connects: Vec<PortConnect>,
-    /// The ports that are connected.
+    /// The ports that are connected, but for those of the first connects.
     pub ports: Names<'a>,
 }
 
@@ -48,7 +57,7 @@ impl<'a> CellBody<'a> {
         ensures step { CellStepsTo result self.old self.new line (port_connect port.now signal) }
         ensures ports { OnOk result (HasItsPorts self.new) }
     {
-        if !self.ports.add(port)? {
+        if !add_port(&self.connects, &mut self.ports, port)? {
             return Err(bad_form(line));
         }
         let port = copy(alloc, port)?;
@@ -57,32 +66,70 @@ impl<'a> CellBody<'a> {
     }
 }
 
-fn form<'a>(alloc: Global, line: &Line<'a>) -> Result<CellStatement<'a>, Misfit>
+fn has_port(connects: &[PortConnect], port: &[u8]) -> bool
+    ensures { result ≡ list_any (λ (c : AnyConnect). bytes_eq port.now c.port) connects.now }
+{
+    connects
+        .iter()
+        .any(|connect| port == connect.port.as_slice())
+}
+
+/// Adds a port behind those of the connects; answers whether it is new. The ports of the connects behind the first ones
+/// stand in a set.
+fn add_port<'a>(
+    connects: &[PortConnect],
+    ports: &mut Names<'a>,
+    port: &'a [u8],
+) -> Result<bool, NoMemory>
+    requires { HaveSameNames ports.old (late (port_names connects.now)) }
+    ensures new { IfOk result (λ added. added ≡ not (is_among port.now (port_names connects.now))) }
+    ensures ports { IfOk result (λ added. IsTrue added → HaveSameNames ports.new (late (port_names connects.now ++ port.now ∷ []))) }
+{
+    let few = connects.len().min(MOST_FEW);
+    if has_port(&connects[..few], port) {
+        return Ok(false);
+    }
+    if few < MOST_FEW {
+        return Ok(true);
+    }
+    ports.add(port)
+}
+
+fn form<'a>(
+    alloc: Global,
+    line: &Line<'a>,
+    words: &mut Vec<Word<'a>>,
+) -> Result<CellStatement<'a>, Misfit>
     ensures { Gives cell_view result (form_in_cell (line_view line.now)) }
 {
-    let words = line.words(alloc)?;
-    cell_statement(alloc, line.number(), &words)
+    line.words(words)?;
+    cell_statement(alloc, line.number(), words)
 }
 
 /// The statement of a cell on the line.
-fn statement<'a>(alloc: Global, line: &Line<'a>) -> Result<CellStatement<'a>, Stop>
+fn statement<'a>(
+    alloc: Global,
+    line: &Line<'a>,
+    words: &mut Vec<Word<'a>>,
+) -> Result<CellStatement<'a>, Stop>
     ensures { ReadsCellLine result line.now }
 {
-    answer_at(form(alloc, line), line.number())
+    answer_at(form(alloc, line, words), line.number())
 }
 
-/// Reads what stands in a cell, up to its `end`.
+/// Reads what stands in a cell, up to its `end`; the words of each line in turn stand in `words`.
 pub fn read_cell_body<'a>(
     alloc: Global,
     lines: &mut Lines<'a>,
     end_line: u32,
+    words: &mut Vec<Word<'a>>,
 ) -> Result<CellBody<'a>, Stop>
     ensures body { ReadsCell result end_line lines.old lines.new }
     ensures fewer { OnOk result (length (left_of lines.new) ≤ length (left_of lines.old)) }
 {
     let mut body = CellBody::new(alloc);
     while let Some(line) = lines.take() {
-        match statement(alloc, &line)? {
+        match statement(alloc, &line, words)? {
             CellStatement::Parameter(parameter) => {
                 body.parameters.push(parameter)?;
             }

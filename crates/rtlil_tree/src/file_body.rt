@@ -13,6 +13,7 @@ use crate::misfit::{Misfit, answer_at, bad_form};
 use crate::module_body::{none_held, read_module_body, taken};
 use crate::names::Names;
 use crate::statements::{FileStatement, file_statement};
+use crate::word::Word;
 use circuit_types::{Attribute, Module, Stop, Tree};
 use sequences::Sequence;
 use std::alloc::Global;
@@ -47,6 +48,7 @@ impl<'a> FileBody<'a> {
         end_line: u32,
         line: u32,
         name: &'a [u8],
+        words: &mut Vec<Word<'a>>,
     ) -> Result<(), Stop>
         requires { HasItsModules self.old }
         ensures module { FileRunsTo result end_line self.old self.new lines.old lines.new line (begins name.now) }
@@ -56,7 +58,7 @@ impl<'a> FileBody<'a> {
         if !self.names.add(name)? {
             return Err(bad_form(line));
         }
-        let items = read_module_body(alloc, lines, end_line)?;
+        let items = read_module_body(alloc, lines, end_line, words)?;
         let name = copy(alloc, name)?;
         let attributes = taken(alloc, &mut self.held);
         self.modules.push(Module {
@@ -69,18 +71,26 @@ impl<'a> FileBody<'a> {
     }
 }
 
-fn form<'a>(alloc: Global, line: &Line<'a>) -> Result<FileStatement<'a>, Misfit>
+fn form<'a>(
+    alloc: Global,
+    line: &Line<'a>,
+    words: &mut Vec<Word<'a>>,
+) -> Result<FileStatement<'a>, Misfit>
     ensures { Gives file_view result (form_in_file (line_view line.now)) }
 {
-    let words = line.words(alloc)?;
-    file_statement(alloc, &words)
+    line.words(words)?;
+    file_statement(alloc, words)
 }
 
 /// The statement of a file on the line.
-fn statement<'a>(alloc: Global, line: &Line<'a>) -> Result<FileStatement<'a>, Stop>
+fn statement<'a>(
+    alloc: Global,
+    line: &Line<'a>,
+    words: &mut Vec<Word<'a>>,
+) -> Result<FileStatement<'a>, Stop>
     ensures { ReadsFileLine result line.now }
 {
-    answer_at(form(alloc, line), line.number())
+    answer_at(form(alloc, line, words), line.number())
 }
 
 /// Reads all statements.
@@ -88,9 +98,10 @@ pub fn read_file<'a>(alloc: Global, lines: &mut Lines<'a>, end_line: u32) -> Res
     ensures { LeadsTo result (run end_line start (left_of lines.old)) (λ t. Ok t) }
 {
     let mut body = FileBody::new(alloc);
+    let mut words = Vec::new(alloc);
     while let Some(line) = lines.take() {
         let number = line.number();
-        match statement(alloc, &line)? {
+        match statement(alloc, &line, &mut words)? {
             FileStatement::Autoidx(_) => {
                 none_held(&body.held, number)?;
             }
@@ -98,7 +109,7 @@ pub fn read_file<'a>(alloc: Global, lines: &mut Lines<'a>, end_line: u32) -> Res
                 body.held.push(attribute)?;
             }
             FileStatement::Module(name) => {
-                body.module(alloc, lines, end_line, number, name)?;
+                body.module(alloc, lines, end_line, number, name, &mut words)?;
             }
         }
     }

@@ -11,7 +11,6 @@ use crate::keyword::{Keyword, keyword_of};
 use crate::misfit::Misfit;
 use crate::word::{Word, piece, word_of};
 use rtlil_lex::{Token, TokenKind};
-use std::alloc::Global;
 
 /// The tokens of a statement.
 #[derive(Clone, Copy)]
@@ -103,18 +102,18 @@ impl<'a> Line<'a> {
         }
     }
 
-    /// What each token says.
-    pub fn words(&self, alloc: Global) -> Result<Vec<Word<'a>>, Misfit>
-        ensures { Gives (λ v. map plain v.items) result (lexemes_of (line_view self.now).tokens) }
+    /// Replaces the words by what each token says.
+    pub fn words(&self, words: &mut Vec<Word<'a>>) -> Result<(), Misfit>
+        ensures { Gives (λ _. map plain words.new.items) result (lexemes_of (line_view self.now).tokens) }
     {
-        let mut words = Vec::with_capacity(alloc, self.tokens.len())?;
+        words.clear();
         for token in self.tokens {
             let Some(word) = word_of(self.bytes, token) else {
                 return Err(Misfit::NoForm);
             };
             words.push(word)?;
         }
-        Ok(words)
+        Ok(())
     }
 }
 

@@ -16,6 +16,7 @@ use crate::line::{Line, Lines};
 use crate::misfit::{Misfit, answer_at, bad_form};
 use crate::names::Names;
 use crate::statements::{ModuleStatement, WireStatement, module_statement};
+use crate::word::Word;
 use circuit_types::{Attribute, Cell, Connect, Item, Parameter, Refusal, Stop, Wire};
 use sequences::Sequence;
 use std::alloc::Global;
@@ -120,6 +121,7 @@ impl<'a> ModuleBody<'a> {
         line: u32,
         kind: &'a [u8],
         name: &'a [u8],
+        words: &mut Vec<Word<'a>>,
     ) -> Result<(), Stop>
         requires { HasItsNames self.old }
         ensures cell { ModuleRunsTo result end_line self.old self.new lines.old lines.new line
@@ -134,7 +136,7 @@ impl<'a> ModuleBody<'a> {
             parameters,
             connects,
             ports: _,
-        } = read_cell_body(alloc, lines, end_line)?;
+        } = read_cell_body(alloc, lines, end_line, words)?;
         let kind = copy(alloc, kind)?;
         let name = copy(alloc, name)?;
         let attributes = taken(alloc, &mut self.held);
@@ -150,29 +152,38 @@ impl<'a> ModuleBody<'a> {
     }
 }
 
-fn form<'a>(alloc: Global, line: &Line<'a>) -> Result<ModuleStatement<'a>, Misfit>
+fn form<'a>(
+    alloc: Global,
+    line: &Line<'a>,
+    words: &mut Vec<Word<'a>>,
+) -> Result<ModuleStatement<'a>, Misfit>
     ensures { Gives module_view result (form_in_module (line_view line.now)) }
 {
-    let words = line.words(alloc)?;
-    module_statement(alloc, line.number(), &words)
+    line.words(words)?;
+    module_statement(alloc, line.number(), words)
 }
 
 /// The statement of a module on the line.
-fn statement<'a>(alloc: Global, line: &Line<'a>) -> Result<ModuleStatement<'a>, Stop>
+fn statement<'a>(
+    alloc: Global,
+    line: &Line<'a>,
+    words: &mut Vec<Word<'a>>,
+) -> Result<ModuleStatement<'a>, Stop>
     ensures { ReadsModuleLine result line.now }
 {
     let number = line.number();
     if line.is_foreign() {
         return Err(Stop::Refused(Refusal::UnsupportedStatement { line: number }));
     }
-    answer_at(form(alloc, line), number)
+    answer_at(form(alloc, line, words), number)
 }
 
-/// Reads what stands in a module, up to its `end`.
+/// Reads what stands in a module, up to its `end`; the words of each line in turn stand in `words`.
 pub fn read_module_body<'a>(
     alloc: Global,
     lines: &mut Lines<'a>,
     end_line: u32,
+    words: &mut Vec<Word<'a>>,
 ) -> Result<Vec<Item>, Stop>
     ensures body { ReadsModule result end_line lines.old lines.new }
     ensures fewer { OnOk result (length (left_of lines.new) ≤ length (left_of lines.old)) }
@@ -180,7 +191,7 @@ pub fn read_module_body<'a>(
     let mut body = ModuleBody::new(alloc);
     while let Some(line) = lines.take() {
         let number = line.number();
-        match statement(alloc, &line)? {
+        match statement(alloc, &line, words)? {
             ModuleStatement::Attribute(attribute) => {
                 body.held.push(attribute)?;
             }
@@ -191,7 +202,7 @@ pub fn read_module_body<'a>(
                 body.wire(alloc, number, wire)?;
             }
             ModuleStatement::Cell(kind, name) => {
-                body.cell(alloc, lines, end_line, number, kind, name)?;
+                body.cell(alloc, lines, end_line, number, kind, name, words)?;
             }
             ModuleStatement::Connect(connect) => {
                 body.connect(number, connect)?;

@@ -4,23 +4,22 @@ ghost use Rattle.std.specs.Prelude.{◌≡◌, [], not, IfOk, OnOk};
 ghost use Rattle.rtlil_tree.specs.Names.{is_among};
 ghost use Rattle.rtlil_tree.specs.Seen.{HasOneMore};
 
+use name_table::NameTable;
 use std::alloc::{AllocError, Global};
-use std::collections::BTreeSet;
 use std::marker::Model;
 
-/// A set of names; contracts see them in the set's order.
+/// A set of names; contracts see them in no stated order.
 #[derive(Drop)]
 pub struct Names<'a> {
-    seen: BTreeSet<&'a [u8]>,
+    seen: NameTable<'a, ()>,
 }
 
 impl<'a> Model for Names<'a> {
     ghost use Rattle.std.specs.Prelude.{ℕ, List, map};
-    ghost use Rattle.std.specs.Borrow.{Bor};
 
     ghost Value = { List (List ℕ) };
 
-    ghost view = { λ n. map (λ (k : Bor (List ℕ)). k.now) n.seen.keys };
+    ghost view = { λ n. map (λ p. p.0) n.seen };
 }
 
 impl<'a> Names<'a> {
@@ -28,7 +27,7 @@ impl<'a> Names<'a> {
         ensures { result ≡ [] }
     {
         Names {
-            seen: BTreeSet::new(alloc),
+            seen: NameTable::new(alloc),
         }
     }
 
@@ -37,7 +36,7 @@ impl<'a> Names<'a> {
         ensures new { IfOk result (λ added. added ≡ not (is_among name.now self.old)) }
         ensures names { OnOk result (HasOneMore self.old self.new name.now) }
     {
-        let added = self.seen.insert(name)?;
+        let added = self.seen.add(name, ())?;
         Ok(added)
     }
 }

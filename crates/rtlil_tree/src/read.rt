@@ -8,13 +8,14 @@ ghost use Rattle.circuit_types.specs.declared.refusal.Refusal.{Refusal};
 ghost use Rattle.circuit_types.specs.declared.tree.Tree.{Tree};
 ghost use Rattle.rtlil_tree.specs.Text.{Stands};
 ghost use Rattle.rtlil_tree.specs.Refusals.{IsRefused};
+ghost use Rattle.rtlil_tree.specs.Cursor.{last_line};
 ghost use Rattle.rtlil_tree.specs.Reading.{ReadsText, fault_stop, topped};
 ghost use Rattle.rtlil_tree.specs.Answers.{StandsWithTop, HasStop, AnswersTree, AnswersRefusal};
 
 use crate::file_body::read_file;
 use crate::line::Lines;
 use circuit_types::{Refusal, Stop, Tree, top};
-use rtlil_lex::{LexFault, MOST_BYTES, lex};
+use rtlil_lex::{LexFault, MOST_BYTES, Token, lex};
 use std::alloc::Global;
 
 /// The number of the line on which a place is.
@@ -42,7 +43,17 @@ fn fault_stop(bytes: &[u8], fault: LexFault) -> Stop
     }
 }
 
-/// The tree of the statements.
+/// The number of the line of the last token.
+fn last_line(tokens: &[Token]) -> u32
+    ensures { result ≡ last_line tokens.now }
+{
+    match tokens.last() {
+        Some(last) => last.line,
+        None => 0,
+    }
+}
+
+/// The tree of the statements. The last token is the end of the text.
 fn read_text(alloc: Global, bytes: &[u8]) -> Result<Tree, Stop>
     requires { length bytes.now ≤ MOST_BYTES }
     ensures { ReadsText result bytes.now }
@@ -55,7 +66,7 @@ fn read_text(alloc: Global, bytes: &[u8]) -> Result<Tree, Stop>
         bytes,
         rest: &tokens,
     };
-    read_file(alloc, &mut lines, line_at(bytes, bytes.len()))
+    read_file(alloc, &mut lines, last_line(&tokens))
 }
 
 /// The tree, if it has a top module.

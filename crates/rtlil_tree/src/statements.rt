@@ -1,16 +1,17 @@
 //! The forms of statements, by place.
 
-ghost use Rattle.std.specs.Prelude.{◌≡◌, map};
+ghost use Rattle.std.specs.Prelude.{◌≡◌, map, option_map, Some};
 ghost use Rattle.rtlil_tree.specs.Said.{Gives, plain};
-ghost use Rattle.rtlil_tree.specs.Forms.{attribute_of, autoidx_of, begins_of, file_form_of, module_parameter_of, wire_of, cell_of, one_of, two_of, connect_of, end_of, module_form_of, parameter_form_of, cell_parameter_of, port_connect_of, cell_form_of, file_view, wire_view, module_view, cell_view};
+ghost use Rattle.rtlil_tree.specs.Forms.{attribute_of, autoidx_of, begins_of, file_form_of, module_parameter_of, wire_of, cell_of, one_of, two_of, connect_of, end_of, module_form_of, parameter_form_of, cell_parameter_of, one_bit, wire_bit, only_signal, port_connect_of, cell_form_of, file_view, wire_view, module_view, cell_view};
 
 use crate::constant::{constant, copy};
 use crate::keyword::Keyword;
 use crate::misfit::Misfit;
-use crate::options::{Options, wire_options};
+use crate::options::{Options, place, wire_options};
 use crate::signals::signals;
 use crate::word::Word;
 use circuit_types::{Attribute, Connect, Parameter, ParameterForm, Port, Signal};
+use sqlite_items::Boxed;
 use std::alloc::Global;
 
 /// A statement between modules.
@@ -260,14 +261,58 @@ fn cell_parameter(alloc: Global, line: u32, words: &[Word<'_>]) -> Result<Parame
     })
 }
 
+/// The wire and the place, where the words are a bit of a wire.
+fn wire_bit<'a>(words: &[Word<'a>]) -> Option<(&'a [u8], u32)>
+    ensures { option_map (λ x. (x.0.now, x.1)) result ≡ wire_bit (map plain words.now) }
+{
+    match words {
+        [
+            Word::Id(name),
+            Word::OpenSlice,
+            Word::Int(number),
+            Word::CloseSlice,
+        ] => {
+            let place = place(*number)?;
+            Some((name, place))
+        }
+        _ => None,
+    }
+}
+
+/// The bit of a wire at a place.
+fn one_bit(alloc: Global, name: &[u8], place: u32) -> Result<Signal, Misfit>
+    ensures { Gives (λ s. s) result (Some (one_bit name.now place)) }
+{
+    let wire = Signal::Wire(copy(alloc, name)?);
+    Ok(Signal::Slice {
+        of: Boxed::new(alloc, wire)?,
+        high: place,
+        low: place,
+    })
+}
+
+/// The only signal that the words are; most are a wire or a bit of one.
+#[tactic(auto, unfolding(crate::specs::Forms::signals_from))]
+fn only_signal(alloc: Global, words: &[Word<'_>]) -> Result<Signal, Misfit>
+    ensures { Gives (λ s. s) result (only_signal (map plain words.now)) }
+{
+    if let [Word::Id(name)] = words {
+        return Ok(Signal::Wire(copy(alloc, name)?));
+    }
+    if let Some((name, place)) = wire_bit(words) {
+        return one_bit(alloc, name, place);
+    }
+    let signals = signals(alloc, words)?;
+    one(signals)
+}
+
 /// What follows the word `connect` in a cell.
 fn port_connect<'a>(alloc: Global, words: &[Word<'a>]) -> Result<CellStatement<'a>, Misfit>
     ensures { Gives cell_view result (port_connect_of (map plain words.now)) }
 {
     match words {
         [Word::Id(port), rest @ ..] => {
-            let signals = signals(alloc, rest)?;
-            let signal = one(signals)?;
+            let signal = only_signal(alloc, rest)?;
             Ok(CellStatement::Connect(port, signal))
         }
         _ => Err(Misfit::NoForm),

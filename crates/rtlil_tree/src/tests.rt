@@ -25,24 +25,35 @@ fn wire<'a>(alloc: Global, name: &'a [u8], width: Option<i32>) -> Result<Vec<Wor
     Ok(words)
 }
 
+/// Whether a wire with this option `width` is read in a module as one of that width.
+fn reads_wire(alloc: Global, told: Option<i32>, width: u32) -> Result<bool, Fail> {
+    let words = wire(alloc, b"\\a", told)?;
+    match module_statement(alloc, 7, &words) {
+        Ok(ModuleStatement::Wire(statement)) => Ok(
+            statement.name == b"\\a".as_slice()
+                && statement.options.width == width
+                && statement.port == Port::Inner,
+        ),
+        _ => Ok(false),
+    }
+}
+
 #[test]
 fn reads_a_wire_in_a_module(rt: HostRuntime) -> Result<(), Fail> {
-    for (told, width) in [(None, 1), (Some(0), 0), (Some(3), 3)] {
-        let words = wire(rt.alloc(), b"\\a", told)?;
-        match module_statement(rt.alloc(), 7, &words) {
-            Ok(ModuleStatement::Wire(statement)) => {
-                assert!(rt; statement.name == b"\\a".as_slice());
-                assert_eq!(rt; statement.options.width, width);
-                assert!(rt; statement.port == Port::Inner);
-            }
-            _ => assert!(rt; false),
-        }
-    }
-    let words = wire(rt.alloc(), b"\\a", Some(-1))?;
-    assert!(rt; matches!(module_statement(rt.alloc(), 7, &words), Err(Misfit::NoForm)));
-    let words = wire(rt.alloc(), b"\\a", None)?;
-    assert!(rt; matches!(file_statement(rt.alloc(), &words), Err(Misfit::NoForm)));
-    assert!(rt; matches!(cell_statement(rt.alloc(), 7, &words), Err(Misfit::NoForm)));
+    assert!(rt; reads_wire(rt.alloc(), None, 1)?);
+    assert!(rt; reads_wire(rt.alloc(), Some(0), 0)?);
+    assert!(rt; reads_wire(rt.alloc(), Some(3), 3)?);
+    Ok(())
+}
+
+#[test]
+fn refuses_a_wire(rt: HostRuntime) -> Result<(), Fail> {
+    let alloc = rt.alloc();
+    let words = wire(alloc, b"\\a", Some(-1))?;
+    assert!(rt; matches!(module_statement(alloc, 7, &words), Err(Misfit::NoForm)));
+    let words = wire(alloc, b"\\a", None)?;
+    assert!(rt; matches!(file_statement(alloc, &words), Err(Misfit::NoForm)));
+    assert!(rt; matches!(cell_statement(alloc, 7, &words), Err(Misfit::NoForm)));
     Ok(())
 }
 
@@ -114,7 +125,7 @@ const WHOLE: [(&str, &str); 30] = [
 ];
 
 /// What stands between `module \m` and its `end`, and what is answered.
-const INSIDE: [(&str, &str); 68] = [
+const INSIDE: [(&str, &str); 70] = [
     ("wire \\a", "Ok"),
     ("wire", "Refused(BadForm { line: 2 })"),
     ("wire \\a \\b", "Refused(BadForm { line: 2 })"),
@@ -210,6 +221,14 @@ const INSIDE: [(&str, &str); 68] = [
         "Refused(BadForm { line: 4 })",
     ),
     ("cell \\k \\a\nconnect \\A \\x\nconnect \\B \\x\nend", "Ok"),
+    (
+        "cell \\k \\a\nconnect \\A \\x\nconnect \\B \\x\nconnect \\C \\x\nconnect \\D \\x\nconnect \\E \\x\nconnect \\F \\x\nconnect \\G \\x\nconnect \\H \\x\nconnect \\I \\x\nconnect \\A \\x\nend",
+        "Refused(BadForm { line: 12 })",
+    ),
+    (
+        "cell \\k \\a\nconnect \\A \\x\nconnect \\B \\x\nconnect \\C \\x\nconnect \\D \\x\nconnect \\E \\x\nconnect \\F \\x\nconnect \\G \\x\nconnect \\H \\x\nconnect \\I \\x\nconnect \\I \\x\nend",
+        "Refused(BadForm { line: 12 })",
+    ),
     (
         "cell \\k \\a\nconnect \\A \\x\nconnect \\A \\y\nend",
         "Refused(BadForm { line: 4 })",
@@ -368,6 +387,9 @@ module \gadget
 end
 "#;
 
+/// Whole netlists.
+const NETLISTS: [(&str, &str); 3] = [(REFRESH, "Ok"), (FLAT, "Ok"), (GADGET, "Ok")];
+
 /// What is answered, in short.
 fn said(alloc: Global, text: &[u8]) -> Result<String, AllocError>
     requires { length text.now ≤ MOST_BYTES }
@@ -386,6 +408,26 @@ fn check(rt: &impl Abort, alloc: Global, text: &[u8], expected: &str) -> Result<
     Ok(())
 }
 
+fn check_all(rt: &impl Abort, alloc: Global, cases: &[(&str, &str)]) -> Result<(), Fail> {
+    for (text, expected) in cases {
+        check(rt, alloc, text.as_bytes(), expected)?;
+    }
+    Ok(())
+}
+
+/// The text without its last line, which is an `end`.
+fn check_open(rt: &impl Abort, alloc: Global, text: &str, expected: &str) -> Result<(), Fail> {
+    let (open, _) = text.rsplit_once("end\n").ok_or("the last line is an end")?;
+    check(rt, alloc, open.as_bytes(), expected)
+}
+
+#[test]
+fn reads_whole_texts(rt: HostRuntime) -> Result<(), Fail> {
+    check_all(&rt, rt.alloc(), &WHOLE)?;
+    check_all(&rt, rt.alloc(), &NETLISTS)?;
+    check_open(&rt, rt.alloc(), REFRESH, "Refused(BadForm { line: 26 })")
+}
+
 /// A module with this inside.
 fn module_of(alloc: Global, inside: &[u8]) -> Result<Vec<u8>, AllocError> {
     let mut text = Vec::from_slice(alloc, b"module \\m\n".as_slice())?;
@@ -394,34 +436,22 @@ fn module_of(alloc: Global, inside: &[u8]) -> Result<Vec<u8>, AllocError> {
     Ok(text)
 }
 
-#[test]
-fn reads_whole_texts(rt: HostRuntime) -> Result<(), Fail> {
-    for (text, expected) in WHOLE {
-        check(&rt, rt.alloc(), text.as_bytes(), expected)?;
+fn check_modules(rt: &impl Abort, alloc: Global, cases: &[(&str, &str)]) -> Result<(), Fail> {
+    for (inside, expected) in cases {
+        let text = module_of(alloc, inside.as_bytes())?;
+        check(rt, alloc, &text, expected)?;
     }
-    for text in [REFRESH, FLAT, GADGET] {
-        check(&rt, rt.alloc(), text.as_bytes(), "Ok")?;
-    }
-    let (cut, _) = REFRESH
-        .rsplit_once("end\n")
-        .ok_or("the last line is an end")?;
-    check(
-        &rt,
-        rt.alloc(),
-        cut.as_bytes(),
-        "Refused(BadForm { line: 26 })",
-    )
-}
-
-fn check_module(rt: &impl Abort, alloc: Global, inside: &[u8], expected: &str) -> Result<(), Fail> {
-    let text = module_of(alloc, inside)?;
-    check(rt, alloc, &text, expected)
+    Ok(())
 }
 
 #[test]
 fn reads_modules(rt: HostRuntime) -> Result<(), Fail> {
-    for (inside, expected) in INSIDE {
-        check_module(&rt, rt.alloc(), inside.as_bytes(), expected)?;
+    check_modules(&rt, rt.alloc(), &INSIDE)
+}
+
+fn push_times(text: &mut Vec<u8>, piece: &[u8], times: usize) -> Result<(), AllocError> {
+    for _ in 0..times {
+        text.extend_from_slice(piece)?;
     }
     Ok(())
 }
@@ -429,32 +459,36 @@ fn reads_modules(rt: HostRuntime) -> Result<(), Fail> {
 /// A connect of a wire in so many joins, or with so many slices.
 fn nested(alloc: Global, joins: usize, slices: usize) -> Result<Vec<u8>, AllocError> {
     let mut text = Vec::from_slice(alloc, b"connect \\b ".as_slice())?;
-    for _ in 0..joins {
-        text.extend_from_slice(b"{ ".as_slice())?;
-    }
+    push_times(&mut text, b"{ ", joins)?;
     text.extend_from_slice(b"\\a".as_slice())?;
-    for _ in 0..slices {
-        text.extend_from_slice(b" [0]".as_slice())?;
-    }
-    for _ in 0..joins {
-        text.extend_from_slice(b" }".as_slice())?;
-    }
+    push_times(&mut text, b" [0]", slices)?;
+    push_times(&mut text, b" }", joins)?;
     module_of(alloc, &text)
+}
+
+/// So many joins, so many slices, and what is answered.
+const NESTED: [(usize, usize, &str); 6] = [
+    (64, 0, "Ok"),
+    (65, 0, "Refused(BadForm { line: 2 })"),
+    (0, 64, "Ok"),
+    (0, 65, "Refused(BadForm { line: 2 })"),
+    (32, 32, "Ok"),
+    (32, 33, "Refused(BadForm { line: 2 })"),
+];
+
+fn check_nested(
+    rt: &impl Abort,
+    alloc: Global,
+    cases: &[(usize, usize, &str)],
+) -> Result<(), Fail> {
+    for (joins, slices, expected) in cases {
+        let text = nested(alloc, *joins, *slices)?;
+        check(rt, alloc, &text, expected)?;
+    }
+    Ok(())
 }
 
 #[test]
 fn nests_at_most_64_deep(rt: HostRuntime) -> Result<(), Fail> {
-    let bad = "Refused(BadForm { line: 2 })";
-    for (joins, slices, expected) in [
-        (64, 0, "Ok"),
-        (65, 0, bad),
-        (0, 64, "Ok"),
-        (0, 65, bad),
-        (32, 32, "Ok"),
-        (32, 33, bad),
-    ] {
-        let text = nested(rt.alloc(), joins, slices)?;
-        check(&rt, rt.alloc(), &text, expected)?;
-    }
-    Ok(())
+    check_nested(&rt, rt.alloc(), &NESTED)
 }

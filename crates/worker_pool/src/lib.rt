@@ -7,6 +7,8 @@
 mod found;
 mod one_thread;
 mod search;
+#[cfg(test)]
+mod tests;
 
 pub use frontier_core::{NoMemory, Verdict};
 pub use one_thread::verify_one;

@@ -5,8 +5,8 @@ ghost use Rattle.frontier_core.specs.Verdict.{IsVerdict};
 
 use crate::search::Search;
 use expr_table::Instance;
-use extend_set::Scratch;
 use frontier_core::{NoMemory, Verdict, work};
+use sim_rules::Scratch;
 use std::alloc::Global;
 use tuple_rank::Binomials;
 
@@ -23,8 +23,7 @@ pub fn verify_one(
     requires few { order ≤ 8 }
     ensures { IfOk result (IsVerdict instance.now order) }
 {
-    let _ = instance.table.rows();
-    let mut scratch = Scratch::make(alloc, instance)?;
+    let mut scratch = Scratch::of_rows(alloc, instance.table.rows())?;
     let mut search = Search::begin(alloc, instance, order)?;
     while let Some(family) = search.stack.pop() {
         let best = search.found.best();

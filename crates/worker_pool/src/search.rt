@@ -1,5 +1,5 @@
 //! A search on one thread.
-ghost use Rattle.std.specs.Prelude.{◌≡◌, ◌≤◌, ◌++◌, IfOk, OnOk, MatchOption, [], ◌∷◌, length, reverse};
+ghost use Rattle.std.specs.Prelude.{◌≤◌, IfOk, OnOk};
 ghost use Rattle.expr_table.specs.Instance.{IsFitting};
 ghost use Rattle.worker_pool.specs.Halfway.{Ends, IsHalfway, waiting_of};
 

@@ -1,4 +1,4 @@
-use Rattle.std.proofs.Common.{◌≡◌, ◌∙◌, sym}
+use Rattle.std.proofs.Common.{◌∙◌, sym}
 use Rattle.frontier_core.proofs.Verdicts.{failed_more}
 use Rattle.frontier_core.proofs.answer.failed_tuple.Goals as goal
 

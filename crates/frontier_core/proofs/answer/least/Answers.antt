@@ -1,4 +1,4 @@
-use Rattle.std.proofs.Common.{◌≡◌, ◌≤◌, ℕ, ◌+◌, min, subst, sym, take, true, get_or}
+use Rattle.std.proofs.Common.{◌≡◌, ◌≤◌, ℕ, ◌+◌, subst, sym, take, true}
 use Rattle.expr_table.specs.Table.{has}
 use Rattle.frontier_core.proofs.Verdicts.{least_more}
 use Rattle.frontier_core.proofs.answer.least.Goals as goal

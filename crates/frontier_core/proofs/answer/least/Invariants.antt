@@ -1,6 +1,5 @@
-use Rattle.std.proofs.Common.{◌≡◌, ◌≤◌, ◌∷◌, ℕ, true, take}
+use Rattle.std.proofs.Common.{◌≡◌, ◌≤◌, ℕ, true, take}
 use Rattle.expr_table.specs.Table.{has}
-use Rattle.frontier_core.specs.Answer.{IsLeast}
 use Rattle.frontier_core.proofs.answer.least.Given as goal
 
 abbrev pub invariant-loop-rank : goal.invariant-loop-rank

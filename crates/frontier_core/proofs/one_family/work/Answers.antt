@@ -1,4 +1,4 @@
-use Rattle.std.proofs.Common.{◌≡◌, ◌∙◌, sym, subst}
+use Rattle.std.proofs.Common.{◌∙◌, sym, subst}
 use Rattle.probe_family.specs.Families.{IsFamily}
 use Rattle.probe_family.specs.Least.{least_of}
 use Rattle.tuple_rank.specs.Tuples.{IsTuple}

@@ -1,12 +1,10 @@
-use Rattle.std.proofs.Common.{◌≡◌, ◌≤◌, ◌<◌, ◌∙◌, ◌++◌, ℕ, List, [], ◌∷◌, ap, arith, sym, subst, length, reverse, Any, vec_len}
+use Rattle.std.proofs.Common.{◌≡◌, ◌∙◌, ◌++◌, ℕ, List, [], ◌∷◌, ap, sym, subst, reverse, vec_len}
 use Rattle.std.proofs.lemmas.List.{append-nil}
 use Rattle.expr_table.specs.declared.instance.Instance.{Instance}
 use Rattle.probe_family.specs.declared.ending.Closed.{Closed}
 use Rattle.probe_family.specs.declared.family.Family.{Family}
 use Rattle.probe_family.specs.Families.{IsFamily}
 use Rattle.family_split.specs.Children.{children_of}
-use Rattle.frontier_core.specs.Preorder.{IsWhole}
-use Rattle.frontier_core.specs.Tree.{tree_of}
 use Rattle.frontier_core.proofs.Halfway.{IsHalfway, are_apart, closings_small, fewer_records, halfway_begins, halfway_ends, halfway_more, is_there, taken_hull, taken_is_family}
 use Rattle.frontier_core.proofs.Places.{nothing_left}
 use Rattle.frontier_core.proofs.Stacks.{reverse_last}

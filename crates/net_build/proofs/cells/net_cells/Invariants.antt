@@ -1,8 +1,10 @@
-use Rattle.std.proofs.Common.{◌≡◌, take}
+use Rattle.std.proofs.Common.{◌≡◌, List, take}
 use Rattle.std.specs.List.{flat_map}
-use Rattle.circuit_types.specs.Items.{kept_cells}
 use Rattle.circuit_types.specs.Nets.{net_cell}
+use Rattle.circuit_types.specs.declared.nets.NetWire.{NetWire}
+use Rattle.circuit_types.specs.declared.tree.Cell.{Cell}
+use Rattle.net_build.specs.Ports.{KnowsPorts}
 use Rattle.net_build.proofs.cells.net_cells.Given as goal
 
-abbrev pub invariant-loop-item : goal.invariant-loop-item
-invariant-loop-item l = l.cells.items ≡ flat_map (net_cell l.wires.list.now l.sources) (kept_cells (take l.item-index l.items))
+abbrev pub invariant-loop-cell : goal.invariant-loop-cell
+invariant-loop-cell l = (ws : List NetWire) (cs : List Cell) → KnowsPorts ws cs l.ports → l.cells.items ≡ flat_map (net_cell ws l.sources) (take l.cell-index cs)

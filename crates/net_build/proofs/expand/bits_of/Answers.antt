@@ -1,7 +1,6 @@
-use Rattle.net_build.proofs.BitLemmas.{whole_signal}
+use Rattle.std.proofs.Common.{◌++◌, ◌∙◌, ap}
+use Rattle.circuit_types.specs.Signals.{signal_bits}
 use Rattle.net_build.proofs.expand.bits_of.Goals as goal
 
 pub returns : goal.returns
-returns c =
-    whole_signal c.args.wires.now.list.now c.args.signal.now c.width_of.result c.new-bits.result.items c.push_bits.new.bits.items c.requires
-    c.width_of.ensures c.new-bits.ensures.items c.in_ok-push_bits.ensures
+returns c = c.in_ok-push_signal.ensures ∙ ap (λ v. v ++ signal_bits c.args.wires.now.list.now c.args.signal.now) c.new-bits.ensures.items

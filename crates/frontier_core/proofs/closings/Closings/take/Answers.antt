@@ -1,10 +1,8 @@
-use Rattle.std.proofs.Common.{◌≡◌, ◌++◌, ◌∙◌, All, List, [], ap, sym, subst, true, false, vec_len}
+use Rattle.std.proofs.Common.{◌++◌, ◌∙◌, All, sym, subst, vec_len}
 use Rattle.std.proofs.lemmas.Bool.{true≢false}
 use Rattle.std.proofs.lemmas.List.Elements.{All-from_recursion, recursion_from_All}
-use Rattle.std.specs.BTreeMap.{insert_entry, is_at}
-use Rattle.std.specs.List.{slice_get}
-use Rattle.std.specs.Map.{remove_entry, values_of}
-use Rattle.probe_family.specs.declared.ending.Closed.{Closed}
+use Rattle.std.specs.BTreeMap.{is_at}
+use Rattle.std.specs.Map.{values_of}
 use Rattle.frontier_core.specs.Closings.{IsSmall, TakesOut}
 use Rattle.frontier_core.proofs.Aside.{IsAside, IsKeyed, aside_begins, aside_ends, aside_more, aside_next, aside_taken, by_items, kept_by_pop, kept_by_remove, popped_small, removed_none}
 use Rattle.frontier_core.proofs.Places.{nothing_left, place_from_get_or}

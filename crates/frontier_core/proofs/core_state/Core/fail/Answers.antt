@@ -1,11 +1,10 @@
-use Rattle.std.proofs.Common.{◌≡◌, ◌∙◌, sym, ap, subst, refl, Some, None, true, false}
+use Rattle.std.proofs.Common.{◌≡◌, ◌∙◌, sym, ap, subst}
 use Rattle.std.specs.Option.{IfSome}
 use Rattle.probe_family.specs.declared.ending.Ending.TheVariants as ending
 use Rattle.probe_family.specs.Least.{least_of}
 use Rattle.tuple_rank.specs.Tuples.{IsTuple, rank_of}
 use Rattle.extend_set.specs.Hull.{hull_of}
 use Rattle.frontier_core.specs.declared.event.Event.TheVariants.{Failed}
-use Rattle.frontier_core.specs.Core.{is_allowed}
 use Rattle.frontier_core.specs.Search.{IsSearched, least_rank}
 use Rattle.frontier_core.proofs.Allowed.{core_done, core_stays, is_done, is_refused, least_tuple, may_fail, may_not_fail, none_from, same_end, some_from}
 use Rattle.frontier_core.proofs.core_state.Core.fail.Goals as goal

@@ -1,5 +1,4 @@
-use Rattle.std.proofs.Common.{◌≡◌, ◌≤◌, ◌∙◌, arith, sym, ap, subst, refl, Some, None, true, false}
-use Rattle.std.specs.List.{list_any}
+use Rattle.std.proofs.Common.{◌≡◌, ◌≤◌, ◌∙◌, sym, ap, subst, refl}
 use Rattle.std.specs.Option.{IfSome}
 use Rattle.expr_table.specs.Table.{has}
 use Rattle.probe_family.specs.declared.ending.Ending.TheVariants as ending

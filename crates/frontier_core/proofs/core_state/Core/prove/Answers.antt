@@ -1,4 +1,4 @@
-use Rattle.std.proofs.Common.{◌≡◌, ◌∙◌, [], sym, ap, subst, Some, None, unwrap_or, length}
+use Rattle.std.proofs.Common.{◌≡◌, ◌∙◌, [], sym, ap, subst, Some, unwrap_or, length}
 use Rattle.std.specs.Option.{IfSome}
 use Rattle.probe_family.specs.Families.{IsFamily}
 use Rattle.probe_family.specs.declared.ending.Ending.TheVariants as ending

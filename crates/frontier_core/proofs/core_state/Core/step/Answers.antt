@@ -1,4 +1,4 @@
-use Rattle.std.proofs.Common.{◌≡◌, ◌≤◌, ◌∙◌, sym, ap, subst, Some, length}
+use Rattle.std.proofs.Common.{◌≡◌, ◌≤◌, sym, subst, length}
 use Rattle.probe_family.specs.Families.{IsFamily}
 use Rattle.frontier_core.specs.declared.event.Event.TheVariants.{Take, Proved, Failed, Beyond}
 use Rattle.std.specs.Result.{IfOk, OnOk}

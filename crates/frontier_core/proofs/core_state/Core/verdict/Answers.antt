@@ -1,11 +1,9 @@
-use Rattle.std.proofs.Common.{◌≡◌, ◌≤◌, ◌∙◌, All, [], Some, ap, sym, subst}
+use Rattle.std.proofs.Common.{◌≡◌, ◌≤◌, ◌∙◌, All, [], ap, sym, subst}
 use Rattle.probe_family.specs.declared.ending.Ended.{Ended}
 use Rattle.probe_family.specs.Families.{total_take}
-use Rattle.frontier_core.specs.Answer.{IsFailedTuple, IsLeast, IsSearchOf}
+use Rattle.frontier_core.specs.Answer.{IsFailedTuple, IsLeast}
 use Rattle.frontier_core.specs.Balance.{failed_ranks}
-use Rattle.frontier_core.specs.Core.{CoreState}
 use Rattle.frontier_core.specs.Preorder.{IsWhole}
-use Rattle.frontier_core.specs.Tree.{first_of}
 use Rattle.frontier_core.proofs.Verdicts.{ended_small, failed_first, is_whole, none_first}
 use Rattle.frontier_core.proofs.core_state.Core.verdict.Goals as goal
 

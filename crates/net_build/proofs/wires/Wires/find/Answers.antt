@@ -8,5 +8,5 @@ pub returns-clause-within : goal.returns-clause-within
 returns-clause-within c =
     let s = c.args.self.now in
     subst (λ o. IfSome o (λ span. span.first + span.width ≤ most_bits))
-    (sym (c.copied.ensures ∙ (c.get.ensures.value ∙ s.known c.args.name.now)))
+    (sym (c.find.ensures ∙ s.known c.args.name.now))
     (span_within most_bits s.list.now c.args.name.now s.within)

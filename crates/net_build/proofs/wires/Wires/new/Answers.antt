@@ -1,13 +1,13 @@
-use Rattle.std.proofs.Common.{arith}
-use Rattle.net_build.proofs.SpanLemmas.{all_unknown, step_known}
+use Rattle.net_build.proofs.SpanLemmas.{none_known, step_known, all_known}
 use Rattle.net_build.proofs.wires.Wires.new.Goals as goal
 
-pub loop-k-init : goal.loop-k-init
-loop-k-init c = (omega arith, all_unknown c.args.list.now _ c.new-spans.result (omega arith) c.new-spans.ensures.empty)
+pub loop-wire-init : goal.loop-wire-init
+loop-wire-init c = none_known c.new-spans.result c.new-spans.ensures
 
-pub loop-k-preserved : goal.loop-k-preserved
-loop-k-preserved c = (
-  omega arith,
-  step_known c.args.list.now c.loop-k.k c.index-list-k.result c.as_slice.result.now c.loop-k.spans c.insert.new.self
-      (omega arith) c.loop-k.invariant.0 c.index-list-k.is c.as_slice.ensures c.in_ok-insert.ensures.updates c.loop-k.invariant.1,
-)
+pub loop-wire-preserved : goal.loop-wire-preserved
+loop-wire-preserved c =
+    step_known c.args.list.now c.loop-wire.wire-index c.wire-item.result c.as_slice.result.now c.span_of.result c.loop-wire.spans c.add.new.self
+    c.loop-wire-test.true c.wire-item.is c.as_slice.ensures c.span_of.ensures c.in_ok-add.ensures.names c.loop-wire.invariant
+
+pub invariant_of-result-clause-known : goal.invariant_of-result-clause-known
+invariant_of-result-clause-known c = all_known c.args.list.now c.loop-wire.wire-index c.loop-wire.spans c.loop-wire-test.false c.loop-wire.invariant

@@ -1,10 +1,7 @@
-use Rattle.std.proofs.Common.{◌≤◌, drop, length}
+use Rattle.std.proofs.Common.{take}
 use Rattle.net_build.specs.Spans.{KnowsSpans}
 use Rattle.net_build.proofs.wires.Wires.new.Given as goal
 
--- the names of the wires from k on are known
-abbrev pub invariant-loop-k : goal.invariant-loop-k
-invariant-loop-k l = (l.k ≤ length l.list) × KnowsSpans (drop l.k l.list) l.spans
-
-abbrev pub decreases-loop-k : goal.decreases-loop-k
-decreases-loop-k l = l.k
+-- the names of the first wires are known
+abbrev pub invariant-loop-wire : goal.invariant-loop-wire
+invariant-loop-wire l = KnowsSpans (take l.wire-index l.list) l.spans
