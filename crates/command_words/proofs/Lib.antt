@@ -1,0 +1,6 @@
+mod Written
+mod Forms
+mod Digits
+mod One
+mod Uses
+mod Asked

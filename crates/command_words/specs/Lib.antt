@@ -1,0 +1,5 @@
+pub mod Names
+pub mod Numbers
+pub mod Parts
+pub mod Commands
+pub mod Reading
