@@ -1,5 +1,5 @@
 -- At most one answer is due.
-use Rattle.std.proofs.Common.{◌≡◌, ◌⊎◌, ℕ, ◌<◌, List, [], length, map, true, Option, Some, None, refl, sym, ap, ◌∙◌, subst, arith, ⊎_elim, inl, inr}
+use Rattle.std.proofs.Common.{◌≡◌, ◌⊎◌, ℕ, ◌<◌, List, length, map, true, Option, Some, None, refl, sym, ap, ◌∙◌, subst, arith, ⊎_elim, inl, inr}
 use Rattle.std.proofs.lemmas.Bool.{cases_lt}
 use Rattle.std.specs.declared.string.String.{String}
 use Rattle.std.specs.declared.alloc.Global.{Global}
@@ -14,7 +14,7 @@ use Rattle.command_words.specs.Commands.{Request, VerifyRequest, Asks, verify, c
 use Rattle.command_words.specs.Names.{texts}
 use Rattle.term_build.specs.Laws.{OneInstance}
 use Rattle.frontier_core.specs.Tree.{tree_of}
-use Rattle.accepted_netlist.specs.Netlist.{Netlist, HasRefusal, probe_name, probes, circuit, roles}
+use Rattle.accepted_netlist.specs.Netlist.{Netlist, probe_name, probes, circuit, roles}
 use Rattle.accepted_netlist.specs.Laws.{OneNetlist, OneRefusal, AcceptedOrRefused}
 use Rattle.maskverif_cli.specs.declared.status.Status.{Status}
 use Rattle.maskverif_cli.specs.declared.status.Status.TheVariants.{Secure, Unproved, Made, Usage, Refused, NoFile, ReadFault, WriteFault, NoMemory}

@@ -1,5 +1,5 @@
 -- What the words and the files are answered with, and the text that is due with it.
-use Rattle.std.specs.Prelude.{ℕ, ◌≡◌, List, [], Option, IfSome, Some, Bool, true, false, IsTrue}
+use Rattle.std.specs.Prelude.{ℕ, ◌≡◌, List, [], Option, IfSome, Some, Bool, true, false}
 use Rattle.std.specs.declared.string.String.{String}
 use Rattle.std.specs.declared.alloc.Global.{Global}
 use Rattle.mv_files.specs.Disk.{Disk, file_of, IsMissing}

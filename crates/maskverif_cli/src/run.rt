@@ -58,7 +58,7 @@ fn run_verify<F: Files, O: Sink>(
     requires least { 1 ≤ asked.question.order }
     requires most { asked.question.order ≤ 8 }
     requires crew { 1 ≤ asked.workers }
-    ensures { (words : List (String Global)) → AskToVerify words (verify_request asked) → Runs words
+    ensures { (words : List (String Global)) → AskToVerify words (verify_request asked.entry) → Runs words
         (record {
           disk = F.disk files.old;
           written = O.written out.old;

@@ -1,9 +1,6 @@
-use Rattle.std.proofs.Common.{◌≡◌, ◌∙◌, ap, length, arith}
-use Rattle.circuit_types.specs.declared.refusal.Refusal.TheVariants.{Limit}
-use Rattle.circuit_types.specs.declared.refusal.Which.TheVariants.{FileBytes}
-use Rattle.accepted_netlist.specs.Netlist.{of_length}
+use Rattle.std.proofs.Common.{◌∙◌}
 use Rattle.maskverif_cli.specs.Gadgets.{gadget_text, trial_question}
-use Rattle.maskverif_cli.proofs.Ending.{refused-reply, same-verdict}
+use Rattle.maskverif_cli.proofs.Ending.{same-verdict}
 use Rattle.maskverif_cli.proofs.gadgets.trial.Goals as goal
 
 pub returns : goal.returns

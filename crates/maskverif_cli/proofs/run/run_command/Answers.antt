@@ -50,12 +50,12 @@ pub returns-in-Trial : goal.returns-in-Trial
 returns-in-Trial g c =
     let words = c.args.words.now in
     let asks = subst (λ (command : Command). Asks (texts words) (request_of command)) c.in-Trial.is c.in-Some.ensures.taken in
-    sent words _ _ c.trial.result c.send-2.result
+    sent words _ _ c.trial.result c.send-in-Trial.result
     (tried-due words (g.F.Files.disk c.args.files.now) c.in-Trial.asked c.trial.result asks c.trial.ensures)
-    (unread _ _ refl refl refl) c.send-2.ensures
+    (unread _ _ refl refl refl) c.send-in-Trial.ensures
 
-pub prove-unreachable-requires : goal.prove-unreachable-requires
-prove-unreachable-requires g c =
+pub unreachable-requires : goal.unreachable-requires
+unreachable-requires g c =
     let words = texts c.args.words.now in
     let asks = subst (λ (command : Command). Asks words (request_of command)) c.in-Check.is c.in-Some.ensures.taken in
     not-checked words (check_request c.in-Check.field-0) asks
