@@ -3,39 +3,26 @@ use Rattle.std.proofs.Common.{◌≡◌, ℕ, ◌+◌, ◌<◌, true, List, Opti
 use Rattle.std.specs.Prelude.{replicate, length}
 use Rattle.std.proofs.lemmas.List.{length-replicate}
 use Rattle.std.specs.Option.{IfSome}
-use Rattle.std.specs.declared.string.String.{String}
-use Rattle.std.specs.declared.alloc.Global.{Global}
 use Rattle.mv_files.specs.Disk.{Disk, file_of, IsLonger}
-use Rattle.circuit_types.specs.declared.probes.Model.{Model}
 use Rattle.circuit_types.specs.declared.refusal.Refusal.{Refusal}
-use Rattle.expr_table.specs.declared.instance.Notion.{Notion}
+use Rattle.command_words.specs.declared.command.Question.{Question}
 use Rattle.accepted_netlist.specs.Netlist.{HasRefusal}
 use Rattle.maskverif_cli.specs.declared.status.Status.{Status}
-use Rattle.maskverif_cli.specs.declared.status.Status.TheVariants.{Secure, Unproved, Usage, Refused, NoFile, ReadFault, WriteFault, NoMemory}
+use Rattle.maskverif_cli.specs.declared.status.Status.TheVariants.{Secure, Unproved, Made, Usage, Refused, NoFile, ReadFault, WriteFault, NoMemory}
 use Rattle.maskverif_cli.specs.Report.{refused_report}
-use Rattle.maskverif_cli.specs.Answer.{IsDue, IsVerdict, NamesNetlist, is_answer}
+use Rattle.maskverif_cli.specs.Answer.{IsVerdict, is_answer}
 
--- what a netlist's bytes are answered with is due
-pub verdict-due : (words : List (String Global)) (disk : Option Disk) (status : Status) (text : List ℕ) → NamesNetlist words disk status text → IsDue words disk status text
-verdict-due words disk Secure text h = h
-verdict-due words disk (Unproved tuple) text h = h
-verdict-due words disk (Refused why) text h = h
-verdict-due words disk Usage text h = absurd h.verdict
-verdict-due words disk NoFile text h = absurd h.verdict
-verdict-due words disk ReadFault text h = absurd h.verdict
-verdict-due words disk WriteFault text h = absurd h.verdict
-verdict-due words disk NoMemory text h = absurd h.verdict
-
--- and it is no fault
-pub verdict-answer : (notion : Notion) (order : ℕ) (model : Model) (bytes : List ℕ) (status : Status) (text : List ℕ) → IsVerdict notion order model bytes status text → is_answer status ≡ true
-verdict-answer notion order model bytes Secure text h = refl
-verdict-answer notion order model bytes (Unproved tuple) text h = refl
-verdict-answer notion order model bytes (Refused why) text h = refl
-verdict-answer notion order model bytes Usage text h = absurd h
-verdict-answer notion order model bytes NoFile text h = absurd h
-verdict-answer notion order model bytes ReadFault text h = absurd h
-verdict-answer notion order model bytes WriteFault text h = absurd h
-verdict-answer notion order model bytes NoMemory text h = absurd h
+-- what a netlist's bytes are answered with is no fault
+pub verdict-answer : (asked : Question) (bytes : List ℕ) (status : Status) (text : List ℕ) → IsVerdict asked bytes status text → is_answer status ≡ true
+verdict-answer asked bytes Secure text h = refl
+verdict-answer asked bytes (Unproved tuple) text h = refl
+verdict-answer asked bytes (Refused why) text h = refl
+verdict-answer asked bytes Made text h = absurd h
+verdict-answer asked bytes Usage text h = absurd h
+verdict-answer asked bytes NoFile text h = absurd h
+verdict-answer asked bytes ReadFault text h = absurd h
+verdict-answer asked bytes WriteFault text h = absurd h
+verdict-answer asked bytes NoMemory text h = absurd h
 
 -- there are longer lists
 pub record LongList (n : ℕ) : Type 0 where
@@ -56,7 +43,6 @@ too-long name None limit h = let long = long-list limit in record { bytes = long
 too-long name (Some d) limit h = record { bytes = h.bytes; there = h.there; longer = h.longer }
 
 -- a refusal that is due, with its report
-pub refused-verdict : (notion : Notion) (order : ℕ) (model : Model) (bytes : List ℕ) (why : Refusal) (status : Status) (text : List ℕ) → HasRefusal notion order model bytes why
-    → status ≡ Refused why → text ≡ refused_report why → IsVerdict notion order model bytes status text
-refused-verdict notion order model bytes why status text due is written =
-    subst (λ s. IsVerdict notion order model bytes s text) (sym is) (record { refusal = due; report = written })
+pub refused-verdict : (asked : Question) (bytes : List ℕ) (why : Refusal) (status : Status) (text : List ℕ) → HasRefusal asked.notion asked.order asked.model bytes why
+    → status ≡ Refused why → text ≡ refused_report why → IsVerdict asked bytes status text
+refused-verdict asked bytes why status text due is written = subst (λ s. IsVerdict asked bytes s text) (sym is) (record { refusal = due; report = written })

@@ -1,4 +1,4 @@
-pub mod Taken
+pub mod Asked
 pub mod Finding
 pub mod Due
 pub mod Deciding

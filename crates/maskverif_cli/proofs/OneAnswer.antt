@@ -1,5 +1,5 @@
 -- At most one answer is due.
-use Rattle.std.proofs.Common.{◌≡◌, ◌⊎◌, ℕ, ◌<◌, List, [], length, map, true, Option, Some, None, refl, sym, ap, ◌∙◌, subst, arith, ⊎_elim, inl, inr}
+use Rattle.std.proofs.Common.{◌≡◌, ◌⊎◌, ℕ, ◌<◌, List, length, map, true, Option, Some, None, refl, sym, ap, ◌∙◌, subst, arith, ⊎_elim, inl, inr}
 use Rattle.std.proofs.lemmas.Bool.{cases_lt}
 use Rattle.std.specs.declared.string.String.{String}
 use Rattle.std.specs.declared.alloc.Global.{Global}
@@ -9,16 +9,53 @@ use Rattle.circuit_types.specs.declared.probes.Model.{Model}
 use Rattle.circuit_types.specs.declared.refusal.Refusal.{Refusal}
 use Rattle.expr_table.specs.declared.instance.Instance.{Instance}
 use Rattle.expr_table.specs.declared.instance.Notion.{Notion}
+use Rattle.command_words.specs.declared.command.Question.{Question}
+use Rattle.command_words.specs.Commands.{Request, VerifyRequest, Asks, verify, check, generate, trial}
+use Rattle.command_words.specs.Names.{texts}
 use Rattle.term_build.specs.Laws.{OneInstance}
 use Rattle.frontier_core.specs.Tree.{tree_of}
-use Rattle.accepted_netlist.specs.Netlist.{Netlist, HasRefusal, probe_name, probes, circuit, roles}
+use Rattle.accepted_netlist.specs.Netlist.{Netlist, probe_name, probes, circuit, roles}
 use Rattle.accepted_netlist.specs.Laws.{OneNetlist, OneRefusal, AcceptedOrRefused}
 use Rattle.maskverif_cli.specs.declared.status.Status.{Status}
-use Rattle.maskverif_cli.specs.declared.status.Status.TheVariants.{Secure, Unproved, Usage, Refused, NoFile, ReadFault, WriteFault, NoMemory}
+use Rattle.maskverif_cli.specs.declared.status.Status.TheVariants.{Secure, Unproved, Made, Usage, Refused, NoFile, ReadFault, WriteFault, NoMemory}
 use Rattle.maskverif_cli.specs.Report.{secure_report, unproved_report, refused_report, usage_text}
 use Rattle.maskverif_cli.specs.Verdict.{IsSecure, IsUnproved, IsProvableTuple, HasRank, Means, tuples_of}
-use Rattle.maskverif_cli.specs.Answer.{IsDue, IsVerdict, IsRefused, NotTaken, NamesNoFile, NamesNetlist, NamesAccepted, is_decided}
-use Rattle.maskverif_cli.proofs.Taken.{same-asked}
+use Rattle.maskverif_cli.specs.Answer.{IsDue, IsVerdict, IsRefused, IsAcceptedFor, NotTaken, HasNoFile, HasVerdict, FindsAccepted, AskAboutAccepted, AskForGadget, is_decided, is_made, not_taken, no_file, netlist, made, tried, of_file, of_gadget}
+use Rattle.maskverif_cli.specs.Gadgets.{gadget_text, trial_question}
+use Rattle.maskverif_cli.proofs.Asked.{OneCommand, same-request}
+
+-- what is due to a request
+abbrev Due : Option Disk → Request → Status → List ℕ → Type 0
+Due disk (verify asked) s a = HasNoFile disk asked s a ⊎ HasVerdict disk asked s a
+Due disk (check asked) s a = ⊥
+Due disk (generate g) s a = (s ≡ Made) × (a ≡ gadget_text g)
+Due disk (trial g) s a = IsVerdict (trial_question g.shares) (gadget_text g) s a
+
+module _ (one_command : OneCommand) (words : List (String Global)) where
+  -- two kinds: nothing is asked for, or a request is answered
+  abbrev Untaken : Status → List ℕ → Type 0
+  Untaken s a = NotTaken words × (s ≡ Usage) × (a ≡ usage_text)
+
+  abbrev Answered : Option Disk → Status → List ℕ → Type 0
+  Answered disk s a = (request : Request) × Asks (texts words) request × Due disk request s a
+
+  kind : (disk : Option Disk) (s : Status) (a : List ℕ) → IsDue words disk s a → Untaken s a ⊎ Answered disk s a
+  kind disk s a (not_taken none is text) = inl (none, is, text)
+  kind disk s a (no_file asked asks h) = inr (verify asked, asks, inl h)
+  kind disk s a (netlist asked asks h) = inr (verify asked, asks, inr h)
+  kind disk s a (made g asks is text) = inr (generate g, asks, (is, text))
+  kind disk s a (tried g asks h) = inr (trial g, asks, h)
+
+  -- what is due to words that ask for this
+  due-for : (disk : Option Disk) (request : Request) (s : Status) (a : List ℕ) → Asks (texts words) request → IsDue words disk s a → Due disk request s a
+  due-for disk request s a asks due =
+      ⊎_elim (λ u. absurd (u.0 request asks))
+      (λ u. subst (λ r. Due disk r s a) (same-request one_command (texts words) u.0 request u.1 asks) u.2)
+      (kind disk s a due)
+
+  -- a gadget is made, where nothing failed
+  pub is-made : (disk : Option Disk) (s : Status) (a : List ℕ) → AskForGadget words → IsDue words disk s a → is_made s ≡ true
+  is-made disk s a h due = ap is_made (due-for disk (generate h.asked) s a h.asks due).0
 
 module _ (one_netlist : OneNetlist) (one_refusal : OneRefusal) (either : AcceptedOrRefused) where
   module _ (one_instance : OneInstance) (notion : Notion) (order : ℕ) (model : Model) (bytes : List ℕ) where
@@ -64,97 +101,86 @@ module _ (one_netlist : OneNetlist) (one_refusal : OneRefusal) (either : Accepte
         let same = one_refusal notion order model bytes r s v.refusal w.refusal in
         (same, v.report ∙ ap refused_report same ∙ sym w.report)
 
-    verdicts : (s t : Status) (a b : List ℕ) → IsVerdict notion order model bytes s a → IsVerdict notion order model bytes t b → (s ≡ t) × (a ≡ b)
-    verdicts Secure Secure a b v w = (refl, secure-secure a b v w)
-    verdicts Secure (Unproved u) a b v w = absurd (secure-unproved u.items a b v w)
-    verdicts Secure (Refused y) a b v w = absurd (either notion order model bytes v.netlist y v.means.accepted w.refusal)
-    verdicts (Unproved u) Secure a b v w = absurd (secure-unproved u.items b a w v)
-    verdicts (Unproved u) (Unproved q) a b v w = let same = unproved-unproved u.items q.items a b v w in (λ i. Unproved (record { items = same.0 i }), same.1)
-    verdicts (Unproved u) (Refused y) a b v w = absurd (either notion order model bytes v.netlist y v.means.accepted w.refusal)
-    verdicts (Refused y) Secure a b v w = absurd (either notion order model bytes w.netlist y w.means.accepted v.refusal)
-    verdicts (Refused y) (Unproved u) a b v w = absurd (either notion order model bytes w.netlist y w.means.accepted v.refusal)
-    verdicts (Refused y) (Refused z) a b v w = let same = refused-refused y z a b v w in (ap Refused same.0, same.1)
-    verdicts Usage t a b v w = absurd v
-    verdicts NoFile t a b v w = absurd v
-    verdicts ReadFault t a b v w = absurd v
-    verdicts WriteFault t a b v w = absurd v
-    verdicts NoMemory t a b v w = absurd v
-    verdicts s Usage a b v w = absurd w
-    verdicts s NoFile a b v w = absurd w
-    verdicts s ReadFault a b v w = absurd w
-    verdicts s WriteFault a b v w = absurd w
-    verdicts s NoMemory a b v w = absurd w
+  verdicts : OneInstance → (q : Question) (bytes : List ℕ) (s t : Status) (a b : List ℕ) → IsVerdict q bytes s a → IsVerdict q bytes t b → (s ≡ t) × (a ≡ b)
+  verdicts one q bytes Secure Secure a b v w = (refl, secure-secure one q.notion q.order q.model bytes a b v w)
+  verdicts one q bytes Secure (Unproved u) a b v w = absurd (secure-unproved one q.notion q.order q.model bytes u.items a b v w)
+  verdicts one q bytes Secure (Refused y) a b v w = absurd (either q.notion q.order q.model bytes v.netlist y v.means.accepted w.refusal)
+  verdicts one q bytes (Unproved u) Secure a b v w = absurd (secure-unproved one q.notion q.order q.model bytes u.items b a w v)
+  verdicts one q bytes (Unproved u) (Unproved p) a b v w =
+      let same = unproved-unproved one q.notion q.order q.model bytes u.items p.items a b v w in (λ i. Unproved (record { items = same.0 i }), same.1)
+  verdicts one q bytes (Unproved u) (Refused y) a b v w = absurd (either q.notion q.order q.model bytes v.netlist y v.means.accepted w.refusal)
+  verdicts one q bytes (Refused y) Secure a b v w = absurd (either q.notion q.order q.model bytes w.netlist y w.means.accepted v.refusal)
+  verdicts one q bytes (Refused y) (Unproved u) a b v w = absurd (either q.notion q.order q.model bytes w.netlist y w.means.accepted v.refusal)
+  verdicts one q bytes (Refused y) (Refused z) a b v w = let same = refused-refused one q.notion q.order q.model bytes y z a b v w in (ap Refused same.0, same.1)
+  verdicts one q bytes Made t a b v w = absurd v
+  verdicts one q bytes Usage t a b v w = absurd v
+  verdicts one q bytes NoFile t a b v w = absurd v
+  verdicts one q bytes ReadFault t a b v w = absurd v
+  verdicts one q bytes WriteFault t a b v w = absurd v
+  verdicts one q bytes NoMemory t a b v w = absurd v
+  verdicts one q bytes s Made a b v w = absurd w
+  verdicts one q bytes s Usage a b v w = absurd w
+  verdicts one q bytes s NoFile a b v w = absurd w
+  verdicts one q bytes s ReadFault a b v w = absurd w
+  verdicts one q bytes s WriteFault a b v w = absurd w
+  verdicts one q bytes s NoMemory a b v w = absurd w
 
-  module _ (one_instance : OneInstance) (words : List (String Global)) (disk : Disk) where
-    abbrev Untaken : Status → List ℕ → Type 0
-    Untaken s a = NotTaken words × (s ≡ Usage) × (a ≡ usage_text)
+  -- a verdict on an accepted netlist decides it
+  verdict-decides : (q : Question) (bytes : List ℕ) (n : Netlist) (s : Status) (a : List ℕ) → IsAcceptedFor q bytes n → IsVerdict q bytes s a → is_decided s ≡ true
+  verdict-decides q bytes n Secure a accepted v = refl
+  verdict-decides q bytes n (Unproved u) a accepted v = refl
+  verdict-decides q bytes n (Refused y) a accepted v = absurd (either q.notion q.order q.model bytes n y accepted v.refusal)
+  verdict-decides q bytes n Made a accepted v = absurd v
+  verdict-decides q bytes n Usage a accepted v = absurd v
+  verdict-decides q bytes n NoFile a accepted v = absurd v
+  verdict-decides q bytes n ReadFault a accepted v = absurd v
+  verdict-decides q bytes n WriteFault a accepted v = absurd v
+  verdict-decides q bytes n NoMemory a accepted v = absurd v
 
-    abbrev Missing : Status → List ℕ → Type 0
-    Missing s a = NamesNoFile words (Some disk) × (s ≡ NoFile) × (a ≡ [])
+  module _ (one_command : OneCommand) (words : List (String Global)) where
+    module _ (one_instance : OneInstance) (disk : Disk) where
+      missing-there : (asked : VerifyRequest) (s t : Status) (a b : List ℕ) → HasNoFile (Some disk) asked s a → HasVerdict (Some disk) asked t b → ⊥
+      missing-there asked s t a b m n = let wrong : None ≡ Some n.bytes = sym m.missing ∙ n.there in cc
 
-    -- the three kinds of what is due
-    kind : (s : Status) (a : List ℕ) → IsDue words (Some disk) s a → Untaken s a ⊎ (Missing s a ⊎ NamesNetlist words (Some disk) s a)
-    kind Usage a h = inl (h.0, refl, h.1)
-    kind NoFile a h = inr (inl (h.0, refl, h.1))
-    kind ReadFault a h = absurd h
-    kind WriteFault a h = absurd h
-    kind NoMemory a h = absurd h
-    kind Secure a h = inr (inr h)
-    kind (Unproved t) a h = inr (inr h)
-    kind (Refused y) a h = inr (inr h)
+      there-there : (asked : VerifyRequest) (s t : Status) (a b : List ℕ) → HasVerdict (Some disk) asked s a → HasVerdict (Some disk) asked t b → (s ≡ t) × (a ≡ b)
+      there-there asked s t a b m n =
+          let both : Some m.bytes ≡ Some n.bytes = sym m.there ∙ n.there in
+          let bytes : m.bytes ≡ n.bytes = cc in
+          verdicts one_instance asked.question n.bytes s t a b (subst (λ v. IsVerdict asked.question v s a) bytes m.verdict) n.verdict
 
-    missing-netlist : (s t : Status) (a b : List ℕ) → Missing s a → NamesNetlist words (Some disk) t b → ⊥
-    missing-netlist s t a b m n =
-        let wrong : None ≡ Some n.bytes = sym m.0.missing ∙ ap (λ name. file_of name disk) (same-asked words m.0.asked n.asked).name ∙ n.there in
-        cc
+      one-for : (request : Request) (s t : Status) (a b : List ℕ) → Due (Some disk) request s a → Due (Some disk) request t b → (s ≡ t) × (a ≡ b)
+      one-for (verify asked) s t a b h k =
+          ⊎_elim
+          (λ m. ⊎_elim (λ n. (m.status_is ∙ sym n.status_is, m.text_is ∙ sym n.text_is)) (λ n. absurd (missing-there asked s t a b m n)) k)
+          (λ m. ⊎_elim (λ n. absurd (missing-there asked t s b a n m)) (λ n. there-there asked s t a b m n) k)
+          h
+      one-for (check asked) s t a b h k = absurd h
+      one-for (generate g) s t a b h k = (h.0 ∙ sym k.0, h.1 ∙ sym k.1)
+      one-for (trial g) s t a b h k = verdicts one_instance (trial_question g.shares) (gadget_text g) s t a b h k
 
-    netlist-netlist : (s t : Status) (a b : List ℕ) → NamesNetlist words (Some disk) s a → NamesNetlist words (Some disk) t b → (s ≡ t) × (a ≡ b)
-    netlist-netlist s t a b m n =
-        let asked = same-asked words m.asked n.asked in
-        let there : Some m.bytes ≡ Some n.bytes = sym m.there ∙ ap (λ name. file_of name disk) asked.name ∙ n.there in
-        let bytes : m.bytes ≡ n.bytes = cc in
-        let one = subst (λ v. IsVerdict v m.asked.order m.asked.model m.bytes s a) asked.notion m.verdict in
-        let two = subst (λ v. IsVerdict n.asked.notion v m.asked.model m.bytes s a) asked.order one in
-        let three = subst (λ v. IsVerdict n.asked.notion n.asked.order v m.bytes s a) asked.model two in
-        let four = subst (λ v. IsVerdict n.asked.notion n.asked.order n.asked.model v s a) bytes three in
-        verdicts one_instance n.asked.notion n.asked.order n.asked.model n.bytes s t a b four n.verdict
+      pub one-due : (s t : Status) (a b : List ℕ) → IsDue words (Some disk) s a → IsDue words (Some disk) t b → (s ≡ t) × (a ≡ b)
+      one-due s t a b h k =
+          ⊎_elim
+          (λ u. ⊎_elim (λ v. (u.1 ∙ sym v.1, u.2 ∙ sym v.2)) (λ v. absurd (u.0 v.0 v.1)) (kind one_command words (Some disk) t b k))
+          (λ u. ⊎_elim (λ v. absurd (v.0 u.0 u.1))
+          (λ v. let asked = same-request one_command (texts words) u.0 v.0 u.1 v.1 in
+          one-for v.0 s t a b (subst (λ request. Due (Some disk) request s a) asked u.2) v.2)
+          (kind one_command words (Some disk) t b k))
+          (kind one_command words (Some disk) s a h)
 
-    not-untaken : (s t : Status) (a b : List ℕ) → Untaken s a → Missing t b ⊎ NamesNetlist words (Some disk) t b → ⊥
-    not-untaken s t a b u v =
-        ⊎_elim (λ m. u.0 m.0.asked.notion m.0.asked.order m.0.asked.model m.0.asked.name m.0.asked.taken) (λ n. u.0 n.asked.notion n.asked.order n.asked.model n.asked.name n.asked.taken) v
-
-    pub one-due : (s t : Status) (a b : List ℕ) → IsDue words (Some disk) s a → IsDue words (Some disk) t b → (s ≡ t) × (a ≡ b)
-    one-due s t a b h k =
+    found-decides : (disk : Option Disk) (asked : VerifyRequest) (s : Status) (a : List ℕ) → FindsAccepted disk asked → Due disk (verify asked) s a → is_decided s ≡ true
+    found-decides disk asked s a n due =
         ⊎_elim
-        (λ u. ⊎_elim (λ v. (u.1 ∙ sym v.1, u.2 ∙ sym v.2)) (λ v. absurd (not-untaken s t a b u v)) (kind t b k))
-        (λ u. ⊎_elim (λ v. absurd (not-untaken t s b a v u))
-        (λ v. ⊎_elim
-        (λ m. ⊎_elim (λ q. (m.1 ∙ sym q.1, m.2 ∙ sym q.2)) (λ n. absurd (missing-netlist s t a b m n)) v)
-        (λ n. ⊎_elim (λ q. absurd (missing-netlist t s b a q n)) (λ r. netlist-netlist s t a b n r) v)
-        u)
-        (kind t b k))
-        (kind s a h)
+        (λ m. let missing = subst (IsMissing asked.netlist) n.tells m.missing in
+        let wrong : None ≡ Some n.bytes = sym missing ∙ n.there in absurd cc)
+        (λ m. let there = subst (λ o. IfSome o (λ d. file_of asked.netlist d ≡ Some m.bytes)) n.tells m.there in
+        let both : Some m.bytes ≡ Some n.bytes = sym there ∙ n.there in
+        let bytes : m.bytes ≡ n.bytes = cc in
+        verdict-decides asked.question n.bytes n.netlist s a n.accepted (subst (λ v. IsVerdict asked.question v s a) bytes m.verdict))
+        due
 
-  -- an accepted netlist is decided, where nothing failed
-  pub decided : (words : List (String Global)) (disk : Option Disk) (status : Status) (a : List ℕ) → NamesAccepted words disk → IsDue words disk status a → is_decided status ≡ true
-  decided words disk Secure a n due = refl
-  decided words disk (Unproved tuple) a n due = refl
-  decided words disk NoMemory a n due = refl
-  decided words disk Usage a n due = absurd (due.0 n.asked.notion n.asked.order n.asked.model n.asked.name n.asked.taken)
-  decided words disk NoFile a n due =
-      let same = (same-asked words due.0.asked n.asked).name in
-      let missing = subst (IsMissing due.0.asked.name) n.tells due.0.missing in
-      let wrong : None ≡ Some n.bytes = sym missing ∙ ap (λ name. file_of name n.told) same ∙ n.there in
-      cc
-  decided words disk ReadFault a n due = absurd due
-  decided words disk WriteFault a n due = absurd due
-  decided words disk (Refused why) a n due =
-      let same = same-asked words due.asked n.asked in
-      let there = subst (λ o. IfSome o (λ d. file_of due.asked.name d ≡ Some due.bytes)) n.tells due.there in
-      let both : Some due.bytes ≡ Some n.bytes = sym there ∙ ap (λ name. file_of name n.told) same.name ∙ n.there in
-      let bytes : due.bytes ≡ n.bytes = cc in
-      let one = subst (λ v. HasRefusal v due.asked.order due.asked.model due.bytes why) same.notion due.verdict.refusal in
-      let two = subst (λ v. HasRefusal n.asked.notion v due.asked.model due.bytes why) same.order one in
-      let three = subst (λ v. HasRefusal n.asked.notion n.asked.order v due.bytes why) same.model two in
-      let four = subst (λ v. HasRefusal n.asked.notion n.asked.order n.asked.model v why) bytes three in
-      absurd (either n.asked.notion n.asked.order n.asked.model n.bytes n.netlist why n.accepted four)
+    -- an accepted netlist is decided, where nothing failed
+    pub decided : (disk : Option Disk) (s : Status) (a : List ℕ) → AskAboutAccepted words disk → IsDue words disk s a → is_decided s ≡ true
+    decided disk s a (of_file asked asks found) due = found-decides disk asked s a found (due-for one_command words disk (verify asked) s a asks due)
+    decided disk s a (of_gadget g asks n accepted) due =
+        verdict-decides (trial_question g.shares) (gadget_text g) n s a accepted (due-for one_command words disk (trial g) s a asks due)

@@ -7,7 +7,7 @@ use Rattle.accepted_netlist.specs.declared.netlist.Accepted.{Accepted}
 use Rattle.accepted_netlist.specs.Known.{Keeps}
 use Rattle.maskverif_cli.specs.declared.report.Heading.{Heading}
 use Rattle.maskverif_cli.specs.declared.verify.Reply.{Reply}
-use Rattle.maskverif_cli.specs.declared.words.Question.{Question}
+use Rattle.command_words.specs.declared.command.Question.{Question}
 use Rattle.maskverif_cli.specs.Answer.{IsVerdict}
 
 -- the printed name of a probe, by its number
@@ -26,4 +26,4 @@ heading_of asked kept = record {
 abbrev pub IsReplyTo : Question → Accepted → Reply → Type 0
 IsReplyTo asked kept reply =
     (bytes : List ℕ) → Keeps asked.notion asked.order asked.model bytes kept
-    → IsVerdict asked.notion asked.order asked.model bytes reply.status reply.text.items
+    → IsVerdict asked bytes reply.status reply.text.items

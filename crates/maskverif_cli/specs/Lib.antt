@@ -1,4 +1,4 @@
-pub mod Words
+pub mod Gadgets
 pub mod Status
 pub mod Report
 pub mod Verdict

@@ -8,7 +8,7 @@ use Rattle.circuit_types.specs.declared.refusal.Refusal.TheVariants.{BadToken, B
 use Rattle.circuit_types.specs.declared.refusal.Which.{Which}
 use Rattle.circuit_types.specs.declared.refusal.Which.TheVariants as which
 use Rattle.expr_table.specs.declared.instance.Notion.{Notion}
-use Rattle.maskverif_cli.specs.Words.{notion_word, model_word}
+use Rattle.command_words.specs.Names.{notion_word, model_word}
 
 -- a text and a line feed
 abbrev pub line : List ℕ → List ℕ

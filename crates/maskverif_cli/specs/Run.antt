@@ -8,7 +8,8 @@ use Rattle.mv_files.specs.Told.{WhereTold}
 use Rattle.mv_files.specs.Sending.{Adds, AddsPart}
 use Rattle.maskverif_cli.specs.declared.status.Status.{Status}
 use Rattle.maskverif_cli.specs.declared.status.Status.TheVariants.{ReadFault, WriteFault, NoMemory}
-use Rattle.maskverif_cli.specs.Answer.{is_answer, Answers, BreaksOff, Asked}
+use Rattle.command_words.specs.Commands.{VerifyRequest}
+use Rattle.maskverif_cli.specs.Answer.{is_answer, Answers, BreaksOff, AskToVerify}
 
 -- what the files and the sink tell, and their counts of faults
 pub record Outside : Type 0 where
@@ -18,9 +19,10 @@ pub record Outside : Type 0 where
   pub write_faults : ℕ
   pub sink_faults : ℕ
 
--- the reading of the netlist that the words name failed, and nothing was written
+-- the words ask to verify a netlist, whose reading failed; and nothing was written
 pub record ReadFails (words : List (String Global)) (old new : Outside) : Type 0 where
-  pub asked : Asked words
+  pub asked : VerifyRequest
+  pub asks : AskToVerify words asked
   pub counted : Rose old.read_faults new.read_faults
   pub unwritten : new.written ≡ old.written
 

@@ -6,7 +6,7 @@ ghost use Rattle.std.specs.declared.string.String.{String};
 ghost use Rattle.std.specs.declared.alloc.Global.{Global};
 ghost use Rattle.mv_files.specs.Disk.{Disk};
 ghost use Rattle.maskverif_cli.specs.declared.status.Status.{Status};
-ghost use Rattle.maskverif_cli.specs.Answer.{IsDue, NamesAccepted, is_decided};
+ghost use Rattle.maskverif_cli.specs.Answer.{AskAboutAccepted, AskForGadget, IsDue, is_decided, is_made};
 
 /// Where the files tell their bytes, at most one answer is due to words, with one text. So each answer of
 /// [`run_plain`](crate::run_plain) that is no fault and no want of memory comes exactly where it is due.
@@ -17,12 +17,22 @@ pub fn one_answer_is_due()
 {
     accepted_netlist::one_netlist_or_refusal();
     term_build::one_instance();
+    command_words::one_command();
 }
 
-/// Where the words name a netlist that is accepted, a verdict on it is the only answer that is due.
+/// Where the words ask about a netlist that is accepted, a verdict on it is the only answer that is due.
 pub fn accepted_is_decided()
     ensures { (words : List (String Global)) (disk : Option Disk) (status : Status) (text : List ℕ)
-        → NamesAccepted words disk → IsDue words disk status text → IsTrue (is_decided status) }
+        → AskAboutAccepted words disk → IsDue words disk status text → IsTrue (is_decided status) }
 {
     accepted_netlist::one_netlist_or_refusal();
+    command_words::one_command();
+}
+
+/// Where the words ask for the text of a gadget, that it is made is the only answer that is due.
+pub fn gadget_is_made()
+    ensures { (words : List (String Global)) (disk : Option Disk) (status : Status) (text : List ℕ)
+        → AskForGadget words → IsDue words disk status text → IsTrue (is_made status) }
+{
+    command_words::one_command();
 }

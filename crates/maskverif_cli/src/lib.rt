@@ -7,6 +7,7 @@
 //! answer is the one that is due, and the sink has taken its *report*.
 #![tactic(auto)]
 
+mod gadgets;
 mod laws;
 mod naming;
 mod report;
@@ -15,10 +16,9 @@ mod status;
 #[cfg(test)]
 mod tests;
 mod verify;
-mod words;
 
 pub use circuit_types::{Refusal, Which};
-pub use laws::{accepted_is_decided, one_answer_is_due};
+pub use laws::{accepted_is_decided, gadget_is_made, one_answer_is_due};
 pub use run::run_plain;
 pub use status::Status;
 pub use tuple_rank::Tuple;

@@ -4,8 +4,8 @@ ghost use Rattle.std.specs.Prelude.{◌≡◌, ℕ, List, IfOk};
 ghost use Rattle.maskverif_cli.specs.Report.{counts_of, secure_report, probe_lines, unproved_report, refused_report, usage_text};
 ghost use Rattle.maskverif_cli.specs.Report.{limit_words, line_of, refusal_words};
 
-use crate::words::{Question, model_word, notion_word};
 use circuit_types::{Refusal, Which};
+use command_words::{Question, model_word, notion_word};
 use sequences::NoMemory;
 use std::alloc::Global;
 

@@ -12,6 +12,8 @@ pub enum Status {
     Secure,
     /// The first tuple of probes that the rules do not prove, by size and then lexicographically.
     Unproved(Tuple),
+    /// The gadget's netlist is made.
+    Made,
     /// The words are no command.
     Usage,
     /// The netlist is not accepted.
@@ -34,7 +36,7 @@ impl Status {
         ensures { result ≡ exit_code self.now }
     {
         match self {
-            Status::Secure => 0,
+            Status::Secure | Status::Made => 0,
             Status::Unproved(_) => 1,
             Status::Usage => 2,
             Status::Refused(_) => 3,

@@ -178,24 +178,33 @@ const NO_FAULTS: Faults = Faults {
     piece: 4096,
 };
 
-/// The exit status and the bytes that were written, for these words over one file `f.il` of these bytes.
+/// The words of a command, cut at single spaces. An empty text has no words.
+fn words_of(alloc: Global, command: &str) -> Result<Vec<String>, NoMemory> {
+    let mut words = Vec::new(alloc);
+    if command.is_empty() {
+        return Ok(words);
+    }
+    for word in command.split(' ') {
+        words.push(String::from_str(alloc, word)?)?;
+    }
+    Ok(words)
+}
+
+/// The exit status and the bytes that were written, for a command over one file `f.il` of these bytes.
 fn outcome(
     alloc: Global,
-    words: &[&str],
+    command: &str,
     bytes: Vec<u8>,
     faults: Faults,
 ) -> Result<(u8, Vec<u8>), NoMemory> {
-    let mut owned = Vec::new(alloc);
-    for word in words {
-        owned.push(String::from_str(alloc, word)?)?;
-    }
+    let words = words_of(alloc, command)?;
     let name = String::from_str(alloc, "f.il")?;
     let listed = vec![in alloc; (name, bytes)]?;
     let failing = vec![in alloc; faults.files]?;
     let mut files = MemoryFiles::make(alloc, listed, 4096, failing, 0, 0)?;
     let failing = vec![in alloc; faults.sink]?;
     let mut out = MemorySink::make(alloc, faults.piece.max(1), failing, 4096)?;
-    let status = run_plain(alloc, owned.as_slice(), &mut files, &mut out);
+    let status = run_plain(alloc, words.as_slice(), &mut files, &mut out);
     Ok((status.code(), Vec::from_slice(alloc, out.written())?))
 }
 
@@ -224,72 +233,88 @@ fn edited(alloc: Global, text: &str, edits: &[(usize, &str)]) -> Result<Vec<u8>,
     Ok(bytes)
 }
 
-/// Compares the answer to a netlist with what is due: what is asked of it is a notion, an order and a model.
-fn expect(
+/// Compares the answer to a command over the file `f.il` with what is due.
+fn answers(
     rt: &impl Abort,
     alloc: Global,
-    asked: [&str; 3],
+    command: &str,
     bytes: Vec<u8>,
     status: u8,
     report: &str,
 ) -> Result<(), NoMemory> {
-    let words = ["verify", asked[0], asked[1], asked[2], "f.il"];
-    let (code, written) = outcome(alloc, words.as_slice(), bytes, NO_FAULTS)?;
-    assert_eq!(rt; code, status, "{report}");
-    assert_eq!(rt; written.as_slice(), report.as_bytes(), "{report}");
+    let (code, written) = outcome(alloc, command, bytes, NO_FAULTS)?;
+    assert_eq!(rt; code, status, "{command}: {report}");
+    assert_eq!(rt;
+        written.as_slice(),
+        report.as_bytes(),
+        "{command}: {report}"
+    );
     Ok(())
+}
+
+/// The same where the netlist of the file is verified: what is asked of it is a notion, an order and a model.
+fn expect(
+    rt: &impl Abort,
+    alloc: Global,
+    asked: &str,
+    bytes: Vec<u8>,
+    status: u8,
+    report: &str,
+) -> Result<(), NoMemory> {
+    let command = format!(in alloc; "verify {asked} f.il")?;
+    answers(rt, alloc, command.as_str(), bytes, status, report)
 }
 
 /// The same for a netlist that is refused.
 fn refuses(rt: &impl Abort, alloc: Global, bytes: Vec<u8>, report: &str) -> Result<(), NoMemory> {
-    expect(rt, alloc, ["probing", "1", "value"], bytes, 3, report)
+    expect(rt, alloc, "probing 1 value", bytes, 3, report)
 }
 
 #[test]
 fn answers_by_order(rt: HostRuntime) -> Result<(), Fail> {
     let alloc = rt.alloc();
     for (text, asked, status, report) in [
-        (REFRESH, ["probing", "1", "value"], 0, SECURE),
-        (WIDE, ["probing", "1", "value"], 0, SECURE),
+        (REFRESH, "probing 1 value", 0, SECURE),
+        (WIDE, "probing 1 value", 0, SECURE),
         (
             REFRESH,
-            ["probing", "2", "value"],
+            "probing 2 value",
             1,
             "Unproved\nnotion probing order 2 model value\nprobes 5\ntuples 15\nrank 5\nprobe x0\nprobe x1\n",
         ),
         (
             REFRESH,
-            ["sni", "1", "value"],
+            "sni 1 value",
             0,
             "Secure\nnotion sni order 1 model value\nprobes 5\ntuples 5\nfamilies 4\n",
         ),
         (
             REFRESH,
-            ["ni", "2", "value"],
+            "ni 2 value",
             0,
             "Secure\nnotion ni order 2 model value\nprobes 5\ntuples 15\nfamilies 3\n",
         ),
         (
             "module \\e\nend\n",
-            ["probing", "3", "value"],
+            "probing 3 value",
             0,
             "Secure\nnotion probing order 3 model value\nprobes 0\ntuples 0\nfamilies 0\n",
         ),
         (
             RANDOM,
-            ["probing", "8", "value"],
+            "probing 8 value",
             0,
             "Secure\nnotion probing order 8 model value\nprobes 1\ntuples 1\nfamilies 1\n",
         ),
         (
             RANDOM_813,
-            ["probing", "8", "value"],
+            "probing 8 value",
             3,
             "Refused 14 Limit Tuples\n",
         ),
         (
             RANDOM_65536,
-            ["probing", "8", "value"],
+            "probing 8 value",
             3,
             "Refused 14 Limit Probes\n",
         ),
@@ -307,7 +332,7 @@ fn decides_an_edited_refresh(rt: HostRuntime) -> Result<(), Fail> {
     expect(
         &rt,
         alloc,
-        ["probing", "1", "value"],
+        "probing 1 value",
         leaky,
         1,
         "Unproved\nnotion probing order 1 model value\nprobes 5\ntuples 5\nrank 4\nprobe y1\n",
@@ -317,7 +342,7 @@ fn decides_an_edited_refresh(rt: HostRuntime) -> Result<(), Fail> {
         REFRESH,
         [(15, "  wire output 5 \\y1\n  wire \\w\n  connect \\w 1'x\n")].as_slice(),
     )?;
-    expect(&rt, alloc, ["probing", "1", "value"], unread, 0, SECURE)?;
+    expect(&rt, alloc, "probing 1 value", unread, 0, SECURE)?;
     let chosen = edited(
         alloc,
         REFRESH,
@@ -334,7 +359,7 @@ fn decides_an_edited_refresh(rt: HostRuntime) -> Result<(), Fail> {
     expect(
         &rt,
         alloc,
-        ["sni", "1", "value"],
+        "sni 1 value",
         chosen,
         1,
         "Unproved\nnotion sni order 1 model value\nprobes 6\ntuples 6\nrank 4\nprobe y0\n",
@@ -349,19 +374,12 @@ const SECURE_GADGET: &str =
 fn decides_a_gadget(rt: HostRuntime) -> Result<(), Fail> {
     let alloc = rt.alloc();
     let plain = edited(alloc, GADGET, [].as_slice())?;
-    expect(
-        &rt,
-        alloc,
-        ["probing", "1", "glitch"],
-        plain,
-        0,
-        SECURE_GADGET,
-    )?;
+    expect(&rt, alloc, "probing 1 glitch", plain, 0, SECURE_GADGET)?;
     let again = edited(alloc, GADGET, [].as_slice())?;
     expect(
         &rt,
         alloc,
-        ["sni", "1", "glitch"],
+        "sni 1 glitch",
         again,
         1,
         "Unproved\nnotion sni order 1 model glitch\nprobes 15\ntuples 15\nrank 13\nprobe c[0]\n",
@@ -383,7 +401,7 @@ fn decides_a_gadget(rt: HostRuntime) -> Result<(), Fail> {
     expect(
         &rt,
         alloc,
-        ["sni", "1", "glitch"],
+        "sni 1 glitch",
         registered,
         0,
         "Secure\nnotion sni order 1 model glitch\nprobes 17\ntuples 17\nfamilies 8\n",
@@ -401,14 +419,7 @@ fn decides_a_gadget(rt: HostRuntime) -> Result<(), Fail> {
         ]
         .as_slice(),
     )?;
-    expect(
-        &rt,
-        alloc,
-        ["probing", "1", "glitch"],
-        reset,
-        0,
-        SECURE_GADGET,
-    )?;
+    expect(&rt, alloc, "probing 1 glitch", reset, 0, SECURE_GADGET)?;
     Ok(())
 }
 
@@ -446,7 +457,8 @@ fn decides_a_gadget_without_registers(rt: HostRuntime) -> Result<(), Fail> {
             ]
             .as_slice(),
         )?;
-        expect(&rt, alloc, ["probing", "1", model], bytes, status, report)?;
+        let asked = format!(in alloc; "probing 1 {model}")?;
+        expect(&rt, alloc, asked.as_str(), bytes, status, report)?;
     }
     Ok(())
 }
@@ -529,52 +541,100 @@ fn refuses_a_gadget(rt: HostRuntime) -> Result<(), Fail> {
 #[test]
 fn reads_the_words(rt: HostRuntime) -> Result<(), Fail> {
     let alloc = rt.alloc();
-    for (words, status, report) in [
-        (["verify", "probing", "1", "value", "f.il"], 0, SECURE),
+    for (command, status, report) in [
+        ("", 2, USAGE),
+        ("verify probing 1 value f.il", 0, SECURE),
+        ("verify probing 01 value f.il", 0, SECURE),
+        ("verify probing 08 value f.il", 1, ORDER_8),
+        ("verify probing 9 value f.il", 2, USAGE),
+        ("verify probing 1 value none.il", 4, ""),
+        ("verify probing 1 value f.il --workers 0", 2, USAGE),
+        ("verify probing 1 value f.il --workers 65", 2, USAGE),
+        ("verify probing 1 value f.il --workers 2", 0, SECURE),
         (
-            ["verify", "probing", "00000000000000000001", "value", "f.il"],
+            "verify probing 1 value f.il --workers 3 --schedule 5",
             0,
             SECURE,
         ),
         (
-            [
-                "verify",
-                "probing",
-                "000000000000000000001",
-                "value",
-                "f.il",
-            ],
-            2,
-            USAGE,
+            "verify --workers=64 probing 1 --schedule=18446744073709551615 value f.il",
+            0,
+            SECURE,
         ),
-        (["verify", "probing", "01", "value", "f.il"], 0, SECURE),
-        (["verify", "probing", "08", "value", "f.il"], 1, ORDER_8),
-        (["verify", "probing", "008", "value", "f.il"], 1, ORDER_8),
-        (["verify", "probing", "0", "value", "f.il"], 2, USAGE),
-        (["verify", "probing", "9", "value", "f.il"], 2, USAGE),
-        (["verify", "probing", "10", "value", "f.il"], 2, USAGE),
-        (
-            ["verify", "probing", "18446744073709551617", "value", "f.il"],
-            2,
-            USAGE,
-        ),
-        (["verify", "probing", "1x", "value", "f.il"], 2, USAGE),
-        (["verify", "probing", "+1", "value", "f.il"], 2, USAGE),
-        (["verify", "probing", "", "value", "f.il"], 2, USAGE),
-        (["verify", "pini", "1", "value", "f.il"], 2, USAGE),
-        (["verify", "probing", "1", "values", "f.il"], 2, USAGE),
-        (["verify", "probing", "1", "value", ""], 2, USAGE),
-        (["verify", "probing", "1", "value", "-f"], 2, USAGE),
-        (["check", "probing", "1", "value", "f.il"], 2, USAGE),
-        (["verify", "probing", "1", "value", "none.il"], 4, ""),
+        ("verify probing 1 value none.il --schedule=5", 4, ""),
+        ("verify probing 1 value f.il --certificate f.il", 2, USAGE),
+        ("verify probing 1 value f.il --certificate out", 2, USAGE),
+        ("check probing 1 value f.il out", 2, USAGE),
     ] {
         let bytes = Vec::from_slice(alloc, REFRESH.as_bytes())?;
-        let (code, written) = outcome(alloc, words.as_slice(), bytes, NO_FAULTS)?;
-        assert_eq!(rt; code, status, "{report}");
-        assert_eq!(rt; written.as_slice(), report.as_bytes(), "{report}");
+        answers(&rt, alloc, command, bytes, status, report)?;
     }
-    let (code, written) = outcome(alloc, [].as_slice(), Vec::new(alloc), NO_FAULTS)?;
-    assert_eq!(rt; (code, written.as_slice() == USAGE.as_bytes()), (2, true));
+    Ok(())
+}
+
+#[test]
+fn makes_and_tries_a_gadget(rt: HostRuntime) -> Result<(), Fail> {
+    let alloc = rt.alloc();
+    for (command, status, report) in [
+        ("generate 0 2", 0, GADGET),
+        ("generate 0 17", 2, USAGE),
+        ("trial 0 2", 0, SECURE_GADGET),
+        ("trial 18446744073709551616 2", 2, USAGE),
+    ] {
+        answers(&rt, alloc, command, Vec::new(alloc), status, report)?;
+    }
+    Ok(())
+}
+
+/// What a trial of three shares writes, up to the number of families.
+const SECURE_THREE: &str =
+    "Secure\nnotion probing order 2 model glitch\nprobes 36\ntuples 666\nfamilies ";
+
+#[test]
+fn tries_what_it_generates(rt: HostRuntime) -> Result<(), Fail> {
+    let alloc = rt.alloc();
+    let (code, netlist) = outcome(alloc, "generate 7 3", Vec::new(alloc), NO_FAULTS)?;
+    assert_eq!(rt; code, 0);
+    let (code, tried) = outcome(alloc, "trial 7 3", Vec::new(alloc), NO_FAULTS)?;
+    let (_, again) = outcome(alloc, "trial 7 3", Vec::new(alloc), NO_FAULTS)?;
+    assert_eq!(rt; code, 0);
+    assert_eq!(rt; tried.as_slice(), again.as_slice());
+    assert!(rt; tried.as_slice().starts_with(SECURE_THREE.as_bytes()));
+    for options in [
+        "--schedule=0",
+        "--workers=2",
+        "--workers=2 --schedule=1",
+        "--workers=64 --schedule=2",
+    ] {
+        let command = format!(in alloc; "verify probing 2 glitch f.il {options}")?;
+        let bytes = Vec::from_slice(alloc, netlist.as_slice())?;
+        let (code, written) = outcome(alloc, command.as_str(), bytes, NO_FAULTS)?;
+        assert_eq!(rt; code, 0, "{options}");
+        assert_eq!(rt; written.as_slice(), tried.as_slice(), "{options}");
+    }
+    Ok(())
+}
+
+#[test]
+fn tries_many_shares(rt: HostRuntime) -> Result<(), Fail> {
+    let alloc = rt.alloc();
+    for (command, report) in [
+        (
+            "trial 1 5",
+            "Secure\nnotion probing order 2 model glitch\nprobes 105\ntuples 5565\nfamilies ",
+        ),
+        (
+            "trial 1 8",
+            "Secure\nnotion probing order 2 model glitch\nprobes 276\ntuples 38226\nfamilies ",
+        ),
+    ] {
+        let (code, written) = outcome(alloc, command, Vec::new(alloc), NO_FAULTS)?;
+        assert_eq!(rt; code, 0, "{command}");
+        assert!(rt;
+            written.as_slice().starts_with(report.as_bytes()),
+            "{command}"
+        );
+    }
     Ok(())
 }
 
@@ -582,20 +642,13 @@ fn reads_the_words(rt: HostRuntime) -> Result<(), Fail> {
 fn refuses_a_long_file(rt: HostRuntime) -> Result<(), Fail> {
     let alloc = rt.alloc();
     let bytes = vec![in alloc; b' '; 67_108_865]?;
-    let words = ["verify", "probing", "1", "value", "f.il"];
-    let (code, written) = outcome(alloc, words.as_slice(), bytes, NO_FAULTS)?;
-    assert_eq!(rt; code, 3);
-    assert_eq!(rt;
-        written.as_slice(),
-        b"Refused 14 Limit FileBytes\n".as_slice()
-    );
+    refuses(&rt, alloc, bytes, "Refused 14 Limit FileBytes\n")?;
     Ok(())
 }
 
 #[test]
 fn names_the_fault(rt: HostRuntime) -> Result<(), Fail> {
     let alloc = rt.alloc();
-    let words = ["verify", "probing", "1", "value", "f.il"];
     // The file is opened, read, and read once more at its end; the sink is called until it took the whole text.
     for (files, sink, piece, status, written_text) in [
         (0, NEVER, 4096, 5, ""),
@@ -608,7 +661,7 @@ fn names_the_fault(rt: HostRuntime) -> Result<(), Fail> {
     ] {
         let faults = Faults { files, sink, piece };
         let bytes = Vec::from_slice(alloc, REFRESH.as_bytes())?;
-        let (code, written) = outcome(alloc, words.as_slice(), bytes, faults)?;
+        let (code, written) = outcome(alloc, "verify probing 1 value f.il", bytes, faults)?;
         assert_eq!(rt; code, status, "{files} {sink}");
         assert_eq!(rt;
             written.as_slice(),

@@ -1,43 +1,61 @@
-use Rattle.std.proofs.Common.{Err, refl, sym, subst}
-use Rattle.mv_files.specs.Disk.{IsWhole}
-use Rattle.rtlil_lex.specs.Tokens.{most_bytes}
-use Rattle.circuit_types.specs.declared.refusal.Refusal.TheVariants.{Limit}
-use Rattle.circuit_types.specs.declared.refusal.Which.TheVariants.{FileBytes}
+use Rattle.std.proofs.Common.{refl, subst}
+use Rattle.command_words.specs.declared.command.Command.{Command}
+use Rattle.command_words.specs.Commands.{Asks, check_request, request_of, verify_request}
+use Rattle.command_words.specs.Names.{texts}
 use Rattle.maskverif_cli.specs.declared.status.Status.TheVariants.{Usage}
-use Rattle.maskverif_cli.specs.Answer.{Asked}
-use Rattle.accepted_netlist.specs.Netlist.{of_length}
-use Rattle.maskverif_cli.proofs.Due.{too-long}
-use Rattle.maskverif_cli.proofs.Ending.{unread, whole-no_fault, too_long-no_fault, missing-no_fault, no-file, finished, sent, refused-reply}
+use Rattle.maskverif_cli.specs.Answer.{not_taken}
+use Rattle.maskverif_cli.proofs.Asked.{made-shares, modest, not-checked, tried-shares}
+use Rattle.maskverif_cli.proofs.Ending.{finished, made-due, sent, tried-due, unread}
 use Rattle.maskverif_cli.proofs.run.run_command.Goals as goal
 
 pub returns-in_default : goal.returns-in_default
 returns-in_default g c =
-    finished c.args.words.now _ _ c.usage.result.now Usage c.finish.result (c.in_default.ensures.other, c.usage.ensures) refl (unread _ _ refl refl refl) c.finish.ensures
+    finished c.args.words.now _ _ c.usage.result.now Usage c.finish.result (not_taken c.in_default.ensures.other refl c.usage.ensures) refl (unread _ _ refl refl refl) c.finish.ensures
 
-pub returns-in-Err-Missing : goal.returns-in-Err-Missing
-returns-in-Err-Missing g c =
-    let words = c.args.words.now in
-    let read = c.in-Err-Missing.ensures in
-    let asked : Asked words = record { notion = c.in-Some.asked.question.notion; order = c.in-Some.asked.question.order; model = c.in-Some.asked.question.model; name = c.in-Some.asked.netlist.now; taken = c.in-Some.ensures.taken } in
-    no-file words _ _ (record { asked = asked; missing = read.missing (λ i. Err (c.in-Err-Missing.field-0-is i)) })
-    (record { files = read.same; reads = read.faultless (missing-no_fault c.in-Err-Missing.field-0 c.in-Err-Missing.field-0-is); writes = read.write_faults }) refl refl
+pub run_verify-requires : goal.run_verify-requires
+run_verify-requires g c =
+    let words = texts c.args.words.now in
+    let asks = subst (λ (command : Command). Asks words (request_of command)) c.in-Verify.is c.in-Some.ensures.taken in
+    let limits = modest words (verify_request c.in-Verify.asked) asks in
+    record { least = limits.least; most = limits.most; crew = limits.crew }
 
-pub returns-in-Err-TooLong : goal.returns-in-Err-TooLong
-returns-in-Err-TooLong g c =
-    let words = c.args.words.now in
-    let disk = g.F.Files.disk c.args.files.now in
-    let read = c.in-Err-TooLong.ensures in
-    let asked : Asked words = record { notion = c.in-Some.asked.question.notion; order = c.in-Some.asked.question.order; model = c.in-Some.asked.question.model; name = c.in-Some.asked.netlist.now; taken = c.in-Some.ensures.taken } in
-    let long = too-long asked.name disk most_bytes (read.too_long (λ i. Err (c.in-Err-TooLong.field-0-is i))) in
-    sent words _ _ asked long.bytes c.refused.result c.send.result long.there
-    (refused-reply asked.notion asked.order asked.model long.bytes (Limit FileBytes) c.refused.result (of_length long.longer refl) c.refused.ensures.status c.refused.ensures.text)
-    (record { files = read.same; reads = read.faultless (too_long-no_fault c.in-Err-TooLong.field-0 c.in-Err-TooLong.field-0-is); writes = read.write_faults }) c.send.ensures
+pub returns-in-Verify : goal.returns-in-Verify
+returns-in-Verify g c =
+    let asks = subst (λ (command : Command). Asks (texts c.args.words.now) (request_of command)) c.in-Verify.is c.in-Some.ensures.taken in
+    c.run_verify.ensures c.args.words.now asks
 
-pub returns : goal.returns
-returns g c =
+pub generate-requires : goal.generate-requires
+generate-requires g c =
+    let words = texts c.args.words.now in
+    let asks = subst (λ (command : Command). Asks words (request_of command)) c.in-Generate.is c.in-Some.ensures.taken in
+    let limits = made-shares words c.in-Generate.asked asks in
+    record { least = limits.least; most = limits.most }
+
+pub returns-in-Generate : goal.returns-in-Generate
+returns-in-Generate g c =
     let words = c.args.words.now in
-    let disk = g.F.Files.disk c.args.files.now in
-    let read = c.in-Ok.ensures in
-    let asked : Asked words = record { notion = c.in-Some.asked.question.notion; order = c.in-Some.asked.question.order; model = c.in-Some.asked.question.model; name = c.in-Some.asked.netlist.now; taken = c.in-Some.ensures.taken } in
-    sent words _ _ asked c.as_slice.result.now c.verify.result c.send-2.result (subst (IsWhole asked.name disk) (sym c.as_slice.ensures.value) read.whole) c.verify.ensures
-    (record { files = read.same; reads = read.faultless (whole-no_fault c.in-Ok.bytes); writes = read.write_faults }) c.send-2.ensures
+    let asks = subst (λ (command : Command). Asks (texts words) (request_of command)) c.in-Generate.is c.in-Some.ensures.taken in
+    sent words _ _ c.generate.result c.send.result
+    (made-due words (g.F.Files.disk c.args.files.now) c.in-Generate.asked c.generate.result asks c.generate.ensures.status c.generate.ensures.text)
+    (unread _ _ refl refl refl) c.send.ensures
+
+pub trial-requires : goal.trial-requires
+trial-requires g c =
+    let words = texts c.args.words.now in
+    let asks = subst (λ (command : Command). Asks words (request_of command)) c.in-Trial.is c.in-Some.ensures.taken in
+    let limits = tried-shares words c.in-Trial.asked asks in
+    record { least = limits.least; most = limits.most }
+
+pub returns-in-Trial : goal.returns-in-Trial
+returns-in-Trial g c =
+    let words = c.args.words.now in
+    let asks = subst (λ (command : Command). Asks (texts words) (request_of command)) c.in-Trial.is c.in-Some.ensures.taken in
+    sent words _ _ c.trial.result c.send-in-Trial.result
+    (tried-due words (g.F.Files.disk c.args.files.now) c.in-Trial.asked c.trial.result asks c.trial.ensures)
+    (unread _ _ refl refl refl) c.send-in-Trial.ensures
+
+pub unreachable-requires : goal.unreachable-requires
+unreachable-requires g c =
+    let words = texts c.args.words.now in
+    let asks = subst (λ (command : Command). Asks words (request_of command)) c.in-Check.is c.in-Some.ensures.taken in
+    not-checked words (check_request c.in-Check.field-0) asks

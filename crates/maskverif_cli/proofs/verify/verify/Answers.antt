@@ -13,4 +13,4 @@ returns-in-Err-Refused c =
     let due = subst (IsRefusal (HasRefusal asked.notion asked.order asked.model c.args.bytes.now)) c.in-Err-Refused.field-0-is c.in-Err-Refused.ensures.refused in
     let status = rw c.in-Err-Refused.field-0-is at c.refused.ensures.status in
     let text = rw c.in-Err-Refused.field-0-is at c.refused.ensures.text in
-    refused-reply asked.notion asked.order asked.model c.args.bytes.now c.in-Err-Refused.refusal c.refused.result due status text
+    refused-reply asked c.args.bytes.now c.in-Err-Refused.refusal c.refused.result due status text

@@ -1,0 +1,79 @@
+//! The answers about gadgets that the program makes.
+
+ghost use Rattle.std.specs.Prelude.{◌≡◌, ◌≤◌, IfOk};
+ghost use Rattle.maskverif_cli.specs.declared.status.Status.TheVariants as status;
+ghost use Rattle.maskverif_cli.specs.Answer.{IsVerdict};
+ghost use Rattle.maskverif_cli.specs.Gadgets.{gadget_text, trial_question};
+
+use crate::status::Status;
+use crate::verify::{Reply, Way, refused, verify};
+use circuit_types::{Model, Refusal, Which};
+use command_words::{Gadget, Question};
+use expr_table::Notion;
+use gadget_maker::make;
+use rtlil_lex::MOST_BYTES;
+use rtlil_print::print_tree;
+use sequences::NoMemory;
+use std::alloc::Global;
+
+/// The text of a gadget's netlist.
+#[tactic(auto, unfolding(crate::specs::Gadgets::gadget_text))]
+fn gadget_text(alloc: Global, asked: Gadget) -> Result<Vec<u8>, NoMemory>
+    requires least { 2 ≤ asked.shares }
+    requires most { asked.shares ≤ 16 }
+    ensures { IfOk result (λ text. text.items ≡ gadget_text asked) }
+{
+    let tree = make(alloc, asked.seed, asked.shares)?;
+    print_tree(alloc, &tree)
+}
+
+/// The answer that is the text of a gadget.
+pub fn generate(alloc: Global, asked: Gadget) -> Result<Reply, NoMemory>
+    requires least { 2 ≤ asked.shares }
+    requires most { asked.shares ≤ 16 }
+    ensures status { IfOk result (λ reply. reply.status ≡ status.Made) }
+    ensures text { IfOk result (λ reply. reply.text.items ≡ gadget_text asked) }
+{
+    let text = gadget_text(alloc, asked)?;
+    Ok(Reply {
+        status: Status::Made,
+        text,
+    })
+}
+
+/// What a trial asks of a gadget of so many shares.
+fn trial_question(shares: u32) -> Question
+    requires { 2 ≤ shares }
+    ensures asked { result ≡ trial_question shares }
+    ensures least { 1 ≤ result.order }
+    ensures most { result.order ≤ 8 }
+{
+    Question {
+        notion: Notion::Probing,
+        order: (shares - 1).min(2),
+        model: Model::Glitch,
+    }
+}
+
+/// The answer to the text of a gadget, as to that of any netlist.
+pub fn trial(alloc: Global, asked: Gadget) -> Result<Reply, NoMemory>
+    requires least { 2 ≤ asked.shares }
+    requires most { asked.shares ≤ 16 }
+    ensures { IfOk result (λ reply. IsVerdict (trial_question asked.shares) (gadget_text asked) reply.status
+        reply.text.items) }
+{
+    let text = gadget_text(alloc, asked)?;
+    if text.len() > MOST_BYTES {
+        return refused(alloc, Refusal::Limit(Which::FileBytes));
+    }
+    let one_thread = Way {
+        workers: 1,
+        schedule: None,
+    };
+    verify(
+        alloc,
+        trial_question(asked.shares),
+        one_thread,
+        text.as_slice(),
+    )
+}
