@@ -1,5 +1,5 @@
 -- What is told of files: their bytes by name, and which one is open.
-use Rattle.std.specs.Prelude.{ℕ, Bool, ◌≡◌, ◌≢◌, ◌<◌, ◌≤◌, List, [], ◌++◌, take, drop, length, Option, None, Some, is_some, IfSome}
+use Rattle.std.specs.Prelude.{ℕ, Bool, ◌≡◌, ◌≢◌, ◌<◌, ◌≤◌, ◌⊎◌, List, [], ◌++◌, take, drop, length, Option, None, Some, is_some, IfSome}
 use Rattle.std.specs.Str.{bytes_eq}
 use Rattle.std.specs.Map.{lookup}
 
@@ -47,6 +47,18 @@ pub record Reads (n : ℕ) (buffer : List ℕ) (old new : Disk) : Type 0 where
 pub record Holds (name bytes : List ℕ) (old new : Disk) : Type 0 where
   pub named : file_of name new ≡ Some bytes
   pub others : (other : List ℕ) → other ≢ name → file_of other new ≡ file_of other old
+
+-- the file of this name holds a first part of the bytes, and not all; each other file holds what it held
+pub record HoldsFirst (name bytes : List ℕ) (old new : Disk) : Type 0 where
+  pub written : List ℕ
+  pub unwritten : List ℕ
+  pub parts : bytes ≡ written ++ unwritten
+  pub some_unwritten : unwritten ≢ []
+  pub holds : Holds name written old new
+
+-- what is left of writing these bytes to the file of this name: it was not created, or has a first part of them
+abbrev pub HoldsPart : List ℕ → List ℕ → Disk → Disk → Type 0
+HoldsPart name bytes old new = SameFiles old new ⊎ HoldsFirst name bytes old new
 
 -- an empty file of this name is open for writing
 pub record Creates (name : List ℕ) (old new : Disk) : Type 0 where

@@ -6,7 +6,7 @@
 //! *fault*, so that whoever handed the object in can see that the failure came from there. An object may *tell* its
 //! contents to proofs or not: files in memory do, and files of the operating system do not.
 //!
-//! [`read_whole`] and [`send_whole`] loop over such calls. [`MemoryFiles`] and [`MemorySink`] are made for tests: they
+//! [`read_whole`], [`write_whole`] and [`send_whole`] loop over such calls. [`MemoryFiles`] and [`MemorySink`] are made for tests: they
 //! give and take bytes in small pieces, and fail at chosen calls.
 #![tactic(auto)]
 
@@ -23,6 +23,7 @@ mod stored_file;
 #[cfg(test)]
 mod tests;
 mod whole;
+mod write;
 
 pub use failed::Failed;
 pub use files::Files;
@@ -33,3 +34,4 @@ pub use send::{WriteFault, send_whole};
 pub use sequences::NoMemory;
 pub use sink::Sink;
 pub use whole::{ReadStop, read_whole};
+pub use write::write_whole;

@@ -6,6 +6,7 @@ use crate::memory_files::MemoryFiles;
 use crate::memory_sink::MemorySink;
 use crate::send::{WriteFault, send_whole};
 use crate::whole::{ReadStop, read_whole};
+use crate::write::write_whole;
 use sequences::NoMemory;
 use std::alloc::Global;
 use std::test::Fail;
@@ -83,6 +84,37 @@ fn creates_and_writes(rt: HostRuntime) -> Result<(), Fail> {
     assert_eq!(rt; files.bytes_of("out").ok_or("out")?, b"012301".as_slice());
     assert_eq!(rt; files.bytes_of("in").ok_or("in")?, TEXT);
     assert!(rt; files.bytes_of("more").is_none());
+    Ok(())
+}
+
+/// The text of ten bytes, to files that have room for one more.
+#[test]
+fn writes_whole(rt: HostRuntime) -> Result<(), Fail> {
+    let alloc = rt.alloc();
+    for (name, piece, room, failing, want) in [
+        ("out", 8, 10, NONE, Some(TEXT)),
+        ("out", 1, 10, NONE, Some(TEXT)),
+        ("out", 8, 10, 3, Some(TEXT)),
+        ("in", 8, 10, NONE, Some(TEXT)),
+        ("out", 8, 10, 0, None),
+        ("out", 8, 10, 1, Some(b"".as_slice())),
+        ("out", 8, 10, 2, Some(b"01234567".as_slice())),
+        ("out", 8, 9, NONE, Some(b"012345678".as_slice())),
+    ] {
+        let held = (
+            String::from_str(alloc, "in")?,
+            Vec::from_slice(alloc, b"held")?,
+        );
+        let held = vec![in alloc; held]?;
+        let failing = vec![in alloc; failing]?;
+        let mut files = MemoryFiles::make(alloc, held, piece, failing, 1, room)?;
+        let written = write_whole(&mut files, name, TEXT);
+        assert_eq!(rt; written.is_ok(), want == Some(TEXT), "{piece} {room}");
+        assert_eq!(rt; files.bytes_of(name), want, "{piece} {room}");
+        if name != "in" {
+            assert_eq!(rt; files.bytes_of("in"), Some(b"held".as_slice()));
+        }
+    }
     Ok(())
 }
 
