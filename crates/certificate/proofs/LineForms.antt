@@ -1,6 +1,7 @@
 -- Each form of line, taken apart and put together.
-use Rattle.std.proofs.Common.{◌≡◌, ℕ, ◌+◌, ◌<◌, ◌≤◌, ◌^◌, false, List, [], ◌∷◌, ◌++◌, length, get_or, codes, decimal, refl, sym, ap, ◌∙◌, subst, arith, append_assoc}
+use Rattle.std.proofs.Common.{◌≡◌, ℕ, ◌+◌, ◌<◌, ◌≤◌, ◌^◌, Bool, true, false, List, [], ◌∷◌, ◌++◌, length, get_or, codes, decimal, refl, sym, ap, ◌∙◌, subst, arith, append_assoc}
 use Rattle.std.specs.List.{AllByRecursion}
+use Rattle.std.proofs.lemmas.Bool.{true≢false}
 use Rattle.std.proofs.lemmas.List.{append_cancel_left}
 use Rattle.rtlil_lex.specs.Bytes.{begins, is_digit}
 use Rattle.expr_table.specs.declared.instance.Notion.{Notion}
@@ -20,26 +21,30 @@ pub record SameNotion (a b : Notion) (rest more : List ℕ) : Type 0 where
   pub notion : a ≡ b
   pub left : rest ≡ more
 
+-- two texts are one, so their first bytes are
+first_bytes : (xs ys : List ℕ) (m n : ℕ) → xs ≡ ys → get_or xs 0 0 ≡ m → get_or ys 0 0 ≡ n → m ≡ n
+first_bytes xs ys m n e p q = sym p ∙ ap (λ (s : List ℕ). get_or s 0 0) e ∙ q
+
 pub same_notion : (a b : Notion) (rest more : List ℕ) → notion_word a ++ rest ≡ notion_word b ++ more → SameNotion a b rest more
-same_notion Probing Probing rest more e = record { notion = refl; left = cc }
-same_notion Ni Ni rest more e = record { notion = refl; left = cc }
-same_notion Sni Sni rest more e = record { notion = refl; left = cc }
-same_notion Probing Ni rest more e = absurd cc
-same_notion Probing Sni rest more e = absurd cc
-same_notion Ni Probing rest more e = absurd cc
-same_notion Ni Sni rest more e = absurd cc
-same_notion Sni Probing rest more e = absurd cc
-same_notion Sni Ni rest more e = absurd cc
+same_notion Probing Probing rest more e = record { notion = refl; left = append_cancel_left (codes "probing") rest more e }
+same_notion Ni Ni rest more e = record { notion = refl; left = append_cancel_left (codes "ni") rest more e }
+same_notion Sni Sni rest more e = record { notion = refl; left = append_cancel_left (codes "sni") rest more e }
+same_notion Probing Ni rest more e = absurd (omega (arith, first_bytes _ _ 112 110 e refl refl))
+same_notion Probing Sni rest more e = absurd (omega (arith, first_bytes _ _ 112 115 e refl refl))
+same_notion Ni Probing rest more e = absurd (omega (arith, first_bytes _ _ 110 112 e refl refl))
+same_notion Ni Sni rest more e = absurd (omega (arith, first_bytes _ _ 110 115 e refl refl))
+same_notion Sni Probing rest more e = absurd (omega (arith, first_bytes _ _ 115 112 e refl refl))
+same_notion Sni Ni rest more e = absurd (omega (arith, first_bytes _ _ 115 110 e refl refl))
 
 pub record SameModel (a b : Model) (rest more : List ℕ) : Type 0 where
   pub model : a ≡ b
   pub left : rest ≡ more
 
 pub same_model : (a b : Model) (rest more : List ℕ) → model_word a ++ rest ≡ model_word b ++ more → SameModel a b rest more
-same_model Value Value rest more e = record { model = refl; left = cc }
-same_model Glitch Glitch rest more e = record { model = refl; left = cc }
-same_model Value Glitch rest more e = absurd cc
-same_model Glitch Value rest more e = absurd cc
+same_model Value Value rest more e = record { model = refl; left = append_cancel_left (codes "value") rest more e }
+same_model Glitch Glitch rest more e = record { model = refl; left = append_cancel_left (codes "glitch") rest more e }
+same_model Value Glitch rest more e = absurd (omega (arith, first_bytes _ _ 118 103 e refl refl))
+same_model Glitch Value rest more e = absurd (omega (arith, first_bytes _ _ 103 118 e refl refl))
 
 pub same_notion_after : (word bytes : List ℕ) (a b : Notion) (rest more : List ℕ) → NotionAfter word bytes a rest → NotionAfter word bytes b more → SameNotion a b rest more
 same_notion_after word bytes a b rest more h g = same_notion a b rest more (append_cancel_left word _ _ (sym h ∙ g))
@@ -64,6 +69,12 @@ no_model word bytes text cut value glitch = λ model rest h. by_model model rest
     by_model : (model : Model) (rest : List ℕ) → text ≡ model_word model ++ rest → ⊥
     by_model Value rest e = value rest e
     by_model Glitch rest e = glitch rest e
+
+pub no_notion_word : (word bytes : List ℕ) → HasNot word bytes → (notion : Notion) (rest : List ℕ) → NotionAfter word bytes notion rest → ⊥
+no_notion_word word bytes none = λ notion rest h. none _ h
+
+pub no_model_word : (word bytes : List ℕ) → HasNot word bytes → (model : Model) (rest : List ℕ) → ModelAfter word bytes model rest → ⊥
+no_model_word word bytes none = λ model rest h. none _ h
 
 -- ---- the title and the last line
 
@@ -285,3 +296,19 @@ cuts_parts bytes rows more h = record { text = h.text ∙ simp append_assoc; sma
 pub cuts_made : (bytes rows more : List ℕ) → ListAfter (codes "cuts") bytes rows more → LineFirst bytes (Cuts rows) more
 unfolding line_text
 cuts_made bytes rows more h = record { form = h.small; text = h.text ∙ sym (simp append_assoc) }
+
+pub no_hull : (bytes : List ℕ) → NoListAfter (codes "hull") bytes → (members rest : List ℕ) → LineFirst bytes (Hull members) rest → ⊥
+no_hull bytes none = λ members rest h. none members rest (hull_parts bytes members rest h)
+
+-- the numbers that were read are no hull, by the test that says so
+pub no_hull_text : (bytes members shown rest : List ℕ) (test : Bool) → ListAfter (codes "hull") bytes members rest → shown ≡ members → (test ≡ true → IsHull shown) × (IsHull shown → test ≡ true)
+    → test ≡ false → (others more : List ℕ) → LineFirst bytes (Hull others) more → ⊥
+no_hull_text bytes members shown rest test h same tests fails = λ others more g.
+    let list : SameList members others rest more = same_list (codes "hull") bytes members rest others more h (hull_parts bytes others more g) in
+    true≢false (sym (tests.1 (subst IsHull (sym (same ∙ list.numbers)) (hull_of bytes others more g))) ∙ fails)
+  where
+    hull_of : (bytes others more : List ℕ) → LineFirst bytes (Hull others) more → IsHull others
+    hull_of bytes others more g = g.form.0
+
+pub no_cuts : (bytes : List ℕ) → NoListAfter (codes "cuts") bytes → (rows rest : List ℕ) → LineFirst bytes (Cuts rows) rest → ⊥
+no_cuts bytes none = λ rows rest h. none rows rest (cuts_parts bytes rows rest h)

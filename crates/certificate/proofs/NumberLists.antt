@@ -1,10 +1,11 @@
 -- Numbers, each after a space.
-use Rattle.std.proofs.Common.{◌≡◌, ℕ, ◌+◌, ◌<◌, ◌≤◌, ◌^◌, zero, suc, false, List, [], ◌∷◌, ◌++◌, length, get_or, take, codes, decimal, refl, sym, ap, ◌∙◌, subst, arith, append_assoc, append-nil}
+use Rattle.std.proofs.Common.{◌≡◌, ℕ, ◌+◌, ◌-◌, ◌<◌, ◌≤◌, ◌^◌, ◌⊎◌, inl, inr, ⊎_elim, zero, suc, Bool, true, false, ◌==◌, List, [], ◌∷◌, ◌++◌, length, get_or, take, codes, decimal, refl, sym, ap, ◌∙◌, subst, arith, append_assoc, append-nil}
 use Rattle.std.specs.List.{AllByRecursion, flat_map}
 use Rattle.std.specs.List.Sorted.{IsStrictlyIncreasing}
-use Rattle.std.proofs.lemmas.List.{append_cancel_left}
+use Rattle.std.proofs.lemmas.Bool.{false≢true, true≢false, eqb-true}
+use Rattle.std.proofs.lemmas.List.{append_cancel_left, take_more, flat_map_more}
 use Rattle.rtlil_lex.specs.Bytes.{begins, is_digit}
-use Rattle.certificate.specs.Lines.{IsSmall, numbers_text}
+use Rattle.certificate.specs.Lines.{IsSmall, IsHull, numbers_text}
 use Rattle.certificate.specs.Parts.{NumberAfter, NoNumberAfter, NumbersFirst, ListAfter, NoListAfter, HasNot}
 use Rattle.certificate.proofs.Numerals.{same_number, SameNumber}
 
@@ -90,3 +91,69 @@ same_list word bytes read rest numbers more h g =
   where
     tails : (xs ys : List ℕ) → 10 ∷ xs ≡ 10 ∷ ys → xs ≡ ys
     tails xs ys e = cc
+
+-- ---- ascending numbers
+
+-- each of the first i numbers but the last is below the next
+abbrev pub AscendsTo : List ℕ → ℕ → Type 0
+AscendsTo xs i = (k : ℕ) → k + 1 < i → get_or xs k 0 < get_or xs (k + 1) 0
+
+at_last : (i k : ℕ) → k + 1 < i + 1 → (k + 1 < i) ⊎ (i ≡ k + 1)
+at_last zero k l = absurd (omega arith)
+at_last (suc zero) zero l = inr (omega arith)
+at_last (suc zero) (suc k) l = absurd (omega arith)
+at_last (suc (suc i)) zero l = inl (omega arith)
+at_last (suc (suc i)) (suc k) l = ⊎_elim (λ less. inl (omega arith)) (λ same. inr (omega arith)) (at_last (suc i) k (omega arith))
+
+pub ascends_one : (xs : List ℕ) → AscendsTo xs 1
+ascends_one xs = λ k l. absurd (omega arith)
+
+pub ascends_more : (xs : List ℕ) (i : ℕ) → AscendsTo xs i → 1 ≤ i → get_or xs (i - 1) 0 < get_or xs i 0 → AscendsTo xs (i + 1)
+ascends_more xs i before low step = λ k l.
+    ⊎_elim
+    (λ (less : k + 1 < i). before k less)
+    (λ (here : i ≡ k + 1).
+    let last : i - 1 ≡ k = omega arith in
+    subst (λ (j : ℕ). get_or xs j 0 < get_or xs (k + 1) 0) last (subst (λ (j : ℕ). get_or xs (i - 1) 0 < get_or xs j 0) here step))
+    (at_last i k l)
+
+pub ascends_not : (xs : List ℕ) (i : ℕ) → 1 ≤ i → i < length xs → get_or xs i 0 ≤ get_or xs (i - 1) 0 → IsStrictlyIncreasing xs → ⊥
+ascends_not xs i low within over up =
+    let here : i - 1 + 1 ≡ i = omega arith in
+    let step : get_or xs (i - 1) 0 < get_or xs i 0 = subst (λ (j : ℕ). get_or xs (i - 1) 0 < get_or xs j 0) here (up (i - 1) (omega arith)) in
+    omega arith
+
+some_by : (n : ℕ) → (n == 0) ≡ false → 0 < n
+some_by zero fails = absurd (true≢false fails)
+some_by (suc n) fails = omega arith
+
+-- there is none
+pub no_hull : (xs : List ℕ) (empty : Bool) → empty ≡ (length xs == 0) → empty ≡ true → (false ≡ true → IsHull xs) × (IsHull xs → false ≡ true)
+no_hull xs empty is t =
+    let none : length xs ≡ 0 = eqb-true (length xs) 0 (sym is ∙ t) in
+    (λ no. absurd (false≢true no), λ h. absurd (omega (arith, h.some)))
+
+-- there is one
+pub some_hull : (xs : List ℕ) (empty r : Bool) → empty ≡ (length xs == 0) → empty ≡ false → (r ≡ true → IsStrictlyIncreasing xs) × (IsStrictlyIncreasing xs → r ≡ true)
+    → (r ≡ true → IsHull xs) × (IsHull xs → r ≡ true)
+some_hull xs empty r is fails h =
+    let some : 0 < length xs = some_by (length xs) (sym is ∙ fails) in
+    (λ t. record { some = some; ascending = h.0 t }, λ g. h.1 g.ascending)
+
+-- ---- numbers that are written
+
+small-append : (ms ns : List ℕ) → AllByRecursion IsSmall ms → AllByRecursion IsSmall ns → AllByRecursion IsSmall (ms ++ ns)
+small-append [] ns h g = g
+small-append (m ∷ ms) ns h g = (h.0, small-append ms ns h.1 g)
+
+pub small_more : (xs : List ℕ) (i : ℕ) → i < length xs → AllByRecursion IsSmall (take i xs) → get_or xs i 0 < 2 ^ 32 → AllByRecursion IsSmall (take (i + 1) xs)
+small_more xs i lt before one =
+    subst (λ (ns : List ℕ). AllByRecursion IsSmall ns) (sym (take_more xs i 0 lt)) (small-append (take i xs) (get_or xs i 0 ∷ []) before (one, tt))
+
+pub text_more : (xs : List ℕ) (i : ℕ) (start text spaced more : List ℕ) → i < length xs → text ≡ start ++ numbers_text (take i xs) → spaced ≡ text ++ 32 ∷ []
+    → more ≡ spaced ++ decimal (get_or xs i 0) → more ≡ start ++ numbers_text (take (i + 1) xs)
+text_more xs i start text spaced more lt before space number =
+    let piece : List ℕ = decimal (get_or xs i 0) in
+    number ∙ ap (λ s. s ++ piece) (space ∙ ap (λ s. s ++ 32 ∷ []) before) ∙ append_assoc (start ++ numbers_text (take i xs)) (32 ∷ []) piece
+    ∙ flat_map_more (λ (n : ℕ). codes " " ++ decimal n) start (take i xs) (get_or xs i 0)
+    ∙ ap (λ ns. start ++ numbers_text ns) (sym (take_more xs i 0 lt))

@@ -1,9 +1,11 @@
 -- Numbers in decimal at the front of bytes.
-use Rattle.std.proofs.Common.{◌≡◌, ℕ, ◌+◌, ◌<◌, ◌≤◌, ◌^◌, zero, suc, Bool, true, false, List, [], ◌∷◌, ◌++◌, length, take, drop, get_or, decimal, refl, sym, ap, ◌∙◌, subst, arith, append_assoc, Option, Some, None, SomeIff, Result, Ok, Err}
+use Rattle.std.proofs.Common.{◌≡◌, ℕ, ◌+◌, ◌<◌, ◌≤◌, ◌^◌, zero, suc, Bool, true, false, List, [], ◌∷◌, ◌++◌, length, take, drop, get_or, decimal, refl, sym, ap, ◌∙◌, subst, arith, append_assoc, length-append, Option, Some, None, SomeIff, Result, Ok, Err}
 use Rattle.std.specs.Prelude.{IsTrue, IsUtf8, OkIff}
 use Rattle.std.specs.List.{prefix_len}
 use Rattle.std.specs.Str.Parse.{IsNumeral, AllDigits, digits_value, ParsesUnsigned}
 use Rattle.std.specs.Result.{result_ok}
+use Rattle.std.specs.Borrow.{Bor}
+use Rattle.std.specs.Option.{MatchOption}
 use Rattle.std.proofs.lemmas.Bool.{true≢false}
 use Rattle.std.proofs.lemmas.Bool.Decides.{nat_tests}
 use Rattle.std.proofs.lemmas.Fmt.{decimal_nonempty, decimal_digit, first_decimal, digits_decimal, digits_value-decimal, decimal-digits_value, decimal_injective, IsAscii-from_digits}
@@ -45,9 +47,9 @@ front_digits bytes n rest h =
 
 -- the digits are not plain
 pub none_plain : (bytes ds : List ℕ) (plain : Bool) → ds ≡ take (prefix_len is_digit bytes) bytes → (ArePlain ds → IsTrue plain) → plain ≡ false → NoNumberAfter (2 ^ 64) [] bytes
-none_plain bytes ds plain cut is no = λ n rest h.
+none_plain bytes ds plain cut is fails = λ n rest h.
     let same : decimal n ≡ ds = sym (front_digits bytes n rest h) ∙ sym cut in
-    true≢false (sym (is (subst ArePlain same (plain_decimal n h.below))) ∙ no)
+    true≢false (sym (is (subst ArePlain same (plain_decimal n h.below))) ∙ fails)
 
 -- the digits are plain, and stand for too much
 pub none_fits : (bytes ds : List ℕ) → ds ≡ take (prefix_len is_digit bytes) bytes → (digits_value 10 ds < 2 ^ 64 → ⊥) → NoNumberAfter (2 ^ 64) [] bytes
@@ -102,6 +104,11 @@ same_number k l word bytes n m rest after low high h g =
     let digits : decimal n ≡ decimal m = append_cancel_right (decimal n) (decimal m) rest (texts ∙ ap (λ s. decimal m ++ s) (sym cut.1)) in
     record { number = decimal_injective n m first second digits; left = cut.1 }
 
+-- what is left is less
+pub number_shorter : (bound : ℕ) (word bytes : List ℕ) (n : ℕ) (rest : List ℕ) → NumberAfter bound word bytes n rest → 0 < length word → length rest < length bytes
+number_shorter bound word bytes n rest h some =
+    omega (arith, ap length h.text, length-append word (decimal n ++ rest), length-append (decimal n) rest)
+
 -- what is not found behind the word
 pub none_behind : (bound : ℕ) (word bytes rest : List ℕ) → bytes ≡ word ++ rest → NoNumberAfter bound [] rest → NoNumberAfter bound word bytes
 none_behind bound word bytes rest cut none = λ n after h.
@@ -112,6 +119,13 @@ none_without bound word bytes none = λ n after h. none _ h.text
 
 pub found_behind : (bound : ℕ) (word bytes rest : List ℕ) (n : ℕ) (after : List ℕ) → bytes ≡ word ++ rest → NumberAfter bound [] rest n after → NumberAfter bound word bytes n after
 found_behind bound word bytes rest n after cut h = record { text = cut ∙ ap (λ s. word ++ s) h.text; below = h.below; stops = h.stops }
+
+-- what is found behind the word is what is found in what follows it
+pub behind_word : (bound : ℕ) (word bytes rest : List ℕ) (r : Option (ℕ × Bor (List ℕ))) → bytes ≡ word ++ rest
+    → MatchOption r (NoNumberAfter bound [] rest) (λ (found : ℕ × Bor (List ℕ)). NumberAfter bound [] rest found.0 found.1.now)
+    → MatchOption r (NoNumberAfter bound word bytes) (λ (found : ℕ × Bor (List ℕ)). NumberAfter bound word bytes found.0 found.1.now)
+behind_word bound word bytes rest None cut h = none_behind bound word bytes rest cut h
+behind_word bound word bytes rest (Some found) cut h = found_behind bound word bytes rest found.0 found.1.now cut h
 
 -- a number of more than 32 bits is none of at most 32
 pub none_large : (word bytes : List ℕ) (n : ℕ) (rest : List ℕ) → NumberAfter (2 ^ 64) word bytes n rest → 2 ^ 32 ≤ n → NoNumberAfter (2 ^ 32) word bytes

@@ -1,5 +1,7 @@
 -- At most one line comes first, and one begins at a place.
-use Rattle.std.proofs.Common.{◌≡◌, ℕ, ◌+◌, ◌-◌, ◌<◌, ◌≤◌, ◌^◌, List, [], ◌∷◌, ◌++◌, length, drop, take, get_or, codes, refl, sym, ap, ◌∙◌, subst, arith, append_assoc, append-nil, length-append, length-drop}
+use Rattle.std.proofs.Common.{◌≡◌, ℕ, ◌+◌, ◌-◌, ◌<◌, ◌≤◌, ◌^◌, List, [], ◌∷◌, ◌++◌, length, drop, take, get_or, codes, refl, sym, ap, ◌∙◌, subst, arith, append_assoc, append-nil, length-append, length-drop, Option, Some, None}
+use Rattle.std.specs.Borrow.{Bor}
+use Rattle.std.specs.Option.{MatchOption}
 use Rattle.std.proofs.lemmas.List.{drop_at, drop-drop}
 use Rattle.expr_table.specs.declared.instance.Notion.{Notion}
 use Rattle.circuit_types.specs.declared.probes.Model.{Model}
@@ -96,18 +98,24 @@ same_at bytes place line other after behind h g =
     (same.line, h.size ∙ ap (λ l. place + length (line_text l)) same.line ∙ sym g.size)
 
 -- what comes first behind a place begins there, and ends where as much is left
-pub stands_at : (bytes : List ℕ) (place : ℕ) (line : Line) (rest : List ℕ) → place ≤ length bytes → LineFirst (drop place bytes) line rest → StandsAt bytes place line (length bytes - length rest)
-stands_at bytes place line rest within h =
-    let sizes : length bytes - place ≡ length (line_text line) + length rest = sym (length-drop place bytes) ∙ ap length h.text ∙ length-append (line_text line) rest in
-    let after : length bytes - length rest ≡ place + length (line_text line) = omega arith in
+sizes : (bytes : List ℕ) (place : ℕ) (line : Line) (rest : List ℕ) → LineFirst (drop place bytes) line rest → length bytes - place ≡ length (line_text line) + length rest
+sizes bytes place line rest h = sym (length-drop place bytes) ∙ ap length h.text ∙ length-append (line_text line) rest
+
+pub rest_within : (bytes : List ℕ) (place : ℕ) (line : Line) (rest : List ℕ) → LineFirst (drop place bytes) line rest → length rest ≤ length bytes
+rest_within bytes place line rest h = omega (arith, sizes bytes place line rest h)
+
+pub stands_at : (bytes : List ℕ) (place : ℕ) (line : Line) (rest : List ℕ) (after : ℕ) → place ≤ length bytes → LineFirst (drop place bytes) line rest → after + length rest ≡ length bytes
+    → StandsAt bytes place line after
+stands_at bytes place line rest after within h ends =
+    let size : after ≡ place + length (line_text line) = omega (arith, sizes bytes place line rest h) in
+    let left : drop after bytes ≡ rest =
+    ap (λ n. drop n bytes) size ∙ sym (drop-drop (length (line_text line)) place bytes) ∙ ap (drop (length (line_text line))) h.text
+    ∙ drop_at (line_text line) rest (length (line_text line)) refl in
     record {
       form = h.form;
-      text = h.text ∙ ap (λ s. line_text line ++ s) (sym (left after));
-      size = after;
+      text = h.text ∙ ap (λ s. line_text line ++ s) (sym left);
+      size = size;
     }
-  where
-    left : length bytes - length rest ≡ place + length (line_text line) → drop (length bytes - length rest) bytes ≡ rest
-    left e = ap (λ n. drop n bytes) e ∙ sym (drop-drop (length (line_text line)) place bytes) ∙ ap (drop (length (line_text line))) h.text ∙ drop_at (line_text line) rest (length (line_text line)) refl
 
 pub no_line_at : (bytes : List ℕ) (place : ℕ) → ((line : Line) (rest : List ℕ) → LineFirst (drop place bytes) line rest → ⊥) → HasNoLineAt bytes place
 no_line_at bytes place none = λ line after h. none line _ (first_at bytes place line after h)
@@ -130,3 +138,16 @@ no_line bytes title run counts hull cuts end = λ line rest h. by_form line rest
     by_form (Hull members) rest h = hull members rest h
     by_form (Cuts rows) rest h = cuts rows rest h
     by_form (End number) rest h = end number rest h
+
+-- the last form that is tried
+pub last_form : (bytes : List ℕ) (r : Option (Line × Bor (List ℕ)))
+    → ((version : ℕ) (rest : List ℕ) → LineFirst bytes (Title version) rest → ⊥)
+    → ((notion : Notion) (order : ℕ) (model : Model) (rest : List ℕ) → LineFirst bytes (Run notion order model) rest → ⊥)
+    → ((members rest : List ℕ) → LineFirst bytes (Hull members) rest → ⊥)
+    → ((rows rest : List ℕ) → LineFirst bytes (Cuts rows) rest → ⊥)
+    → ((number : ℕ) (rest : List ℕ) → LineFirst bytes (End number) rest → ⊥)
+    → MatchOption r ((probes rows tuples : ℕ) (rest : List ℕ) → LineFirst bytes (Counts probes rows tuples) rest → ⊥)
+    (λ (found : Line × Bor (List ℕ)). LineFirst bytes found.0 found.1.now)
+    → MatchOption r ((line : Line) (rest : List ℕ) → LineFirst bytes line rest → ⊥) (λ (found : Line × Bor (List ℕ)). LineFirst bytes found.0 found.1.now)
+last_form bytes None title run hull cuts end counts = no_line bytes title run counts hull cuts end
+last_form bytes (Some found) title run hull cuts end counts = counts

@@ -8,7 +8,7 @@ ghost use Rattle.certificate.specs.Parts.{LineFirst};
 
 use crate::line::Line;
 use crate::number::{after, number_after, small_after};
-use crate::numbers::{is_ascending, list_after};
+use crate::numbers::{is_hull, list_after};
 use crate::words::{model_after, notion_after};
 use sequences::{NoMemory, Sequence};
 use std::alloc::Global;
@@ -66,7 +66,7 @@ pub fn hull(alloc: Global, bytes: &[u8]) -> Result<Option<Found<'_>>, NoMemory>
     let Some((members, rest)) = list_after(alloc, bytes, b"hull")? else {
         return Ok(None);
     };
-    if members.is_empty() || !is_ascending(members.as_slice()) {
+    if !is_hull(members.as_slice()) {
         return Ok(None);
     }
     let line = Line::Hull(Sequence::from_vec(members));

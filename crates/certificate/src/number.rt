@@ -45,18 +45,22 @@ fn value_of(digits: &[u8]) -> Option<u64>
     requires { IsNumeral 10 digits.now }
     ensures { SomeIff result (digits_value 10 digits.now < 2 ^ 64) (digits_value 10 digits.now) }
 {
-    str::from_utf8(digits).ok()?.parse::<u64>().ok()
+    match str::from_utf8(digits) {
+        Ok(text) => text.parse::<u64>().ok(),
+        Err(_) => None,
+    }
 }
 
 /// The number that the bytes begin with, and what follows its digits.
 fn number(bytes: &[u8]) -> Option<(u64, &[u8])>
     ensures { MatchOption result (NoNumberAfter (2 ^ 64) [] bytes.now) (λ found. NumberAfter (2 ^ 64) [] bytes.now found.0 found.1.now) }
 {
-    let (digits, rest) = bytes.split_at(digits(bytes));
-    if !is_plain(digits) {
+    let (front, rest) = bytes.split_at(digits(bytes));
+    if !is_plain(front) {
         return None;
     }
-    Some((value_of(digits)?, rest))
+    let number = value_of(front)?;
+    Some((number, rest))
 }
 
 /// The number that comes after a word, and what follows its digits.

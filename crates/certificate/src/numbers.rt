@@ -3,7 +3,7 @@
 ghost use Rattle.std.specs.Prelude.{◌≡◌, ◌↔◌, ◌^◌, ◌++◌, IsTrue, MatchOption, IfOk, OnOk, codes};
 ghost use Rattle.std.specs.List.{AllByRecursion};
 ghost use Rattle.std.specs.List.Sorted.{IsStrictlyIncreasing};
-ghost use Rattle.certificate.specs.Lines.{IsSmall, numbers_text};
+ghost use Rattle.certificate.specs.Lines.{IsHull, IsSmall, numbers_text};
 ghost use Rattle.certificate.specs.Parts.{ListAfter, NoListAfter, NoNumberAfter, NumbersFirst};
 
 use crate::number::{after, push_number, small_after};
@@ -44,21 +44,33 @@ pub fn list_after<'a>(
 }
 
 /// Whether each number is below the next.
-pub fn is_ascending(numbers: &[u32]) -> bool
+fn is_ascending(numbers: &[u32]) -> bool
     ensures { IsTrue result ↔ IsStrictlyIncreasing numbers.now }
 {
     for i in 1..numbers.len() {
-        if numbers[i - 1] >= numbers[i] {
+        let before = numbers[i - 1];
+        let number = numbers[i];
+        if before >= number {
             return false;
         }
     }
     true
 }
 
+/// Whether there is a number, and each is below the next.
+pub fn is_hull(numbers: &[u32]) -> bool
+    ensures { IsTrue result ↔ IsHull numbers.now }
+{
+    if numbers.is_empty() {
+        return false;
+    }
+    is_ascending(numbers)
+}
+
 /// Puts numbers behind the text, each after a space.
 pub fn push_numbers(text: &mut Vec<u8>, numbers: &[u32]) -> Result<(), NoMemory>
     ensures text { OnOk result (text.new.items ≡ text.old.items ++ numbers_text numbers.now) }
-    ensures small { AllByRecursion IsSmall numbers.now }
+    ensures small { OnOk result (AllByRecursion IsSmall numbers.now) }
 {
     for number in numbers {
         text.push(b' ')?;

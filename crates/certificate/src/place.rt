@@ -45,5 +45,6 @@ pub fn read_line(
     let Some((line, rest)) = first_line(alloc, &bytes[at..])? else {
         return Ok(None);
     };
-    Ok(Some((line, bytes.len() - rest.len())))
+    let after = bytes.len() - rest.len();
+    Ok(Some((line, after)))
 }

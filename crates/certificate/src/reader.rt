@@ -86,10 +86,13 @@ impl<'a> Reader<'a> {
             (λ _. ReadsOne self.old.bytes.now self.old.place self.old.number (line.Title 1) self.new.place self.new.number)
             (IsMisfit is_title self.old.bytes.now self.old.place self.old.number) }
     {
-        match self.next_line()? {
-            Line::Title(VERSION) => Ok(()),
-            _ => Err(self.bad(Why::Form)),
+        let Line::Title(version) = self.next_line()? else {
+            return Err(self.bad(Why::Form));
+        };
+        if version == VERSION {
+            return Ok(());
         }
+        Err(self.bad(Why::Form))
     }
 
     fn run(&mut self) -> Result<(Notion, u32, Model), ReadBad>
@@ -99,14 +102,15 @@ impl<'a> Reader<'a> {
                 self.new.place self.new.number)
             (IsMisfit is_run self.old.bytes.now self.old.place self.old.number) }
     {
-        match self.next_line()? {
-            Line::Run {
-                notion,
-                order,
-                model,
-            } => Ok((notion, order, model)),
-            _ => Err(self.bad(Why::Form)),
-        }
+        let Line::Run {
+            notion,
+            order,
+            model,
+        } = self.next_line()?
+        else {
+            return Err(self.bad(Why::Form));
+        };
+        Ok((notion, order, model))
     }
 
     fn counts(&mut self) -> Result<(u32, u32, u64), ReadBad>
@@ -116,14 +120,15 @@ impl<'a> Reader<'a> {
                 self.new.place self.new.number)
             (IsMisfit is_counts self.old.bytes.now self.old.place self.old.number) }
     {
-        match self.next_line()? {
-            Line::Counts {
-                probes,
-                rows,
-                tuples,
-            } => Ok((probes, rows, tuples)),
-            _ => Err(self.bad(Why::Form)),
-        }
+        let Line::Counts {
+            probes,
+            rows,
+            tuples,
+        } = self.next_line()?
+        else {
+            return Err(self.bad(Why::Form));
+        };
+        Ok((probes, rows, tuples))
     }
 
     /// What the first three lines say.
@@ -159,7 +164,8 @@ impl<'a> Reader<'a> {
         match self.next_line()? {
             Line::Hull(members) => Ok(Some(members)),
             Line::End(number) => {
-                if number == entries as u64 {
+                let due = entries as u64;
+                if number == due {
                     Ok(None)
                 } else {
                     Err(self.bad(Why::Count))
@@ -177,10 +183,10 @@ impl<'a> Reader<'a> {
                 self.new.place self.new.number)
             (IsMisfit is_cuts self.old.bytes.now self.old.place self.old.number) }
     {
-        match self.next_line()? {
-            Line::Cuts(rows) => Ok(rows),
-            _ => Err(self.bad(Why::Form)),
-        }
+        let Line::Cuts(rows) = self.next_line()? else {
+            return Err(self.bad(Why::Form));
+        };
+        Ok(rows)
     }
 
     /// That nothing follows.
