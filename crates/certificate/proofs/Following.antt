@@ -166,14 +166,16 @@ due_hull header entries members =
     let one : Entry = entry_of members [] in
     let before : List Line = flat_map entry_lines entries in
     let same : (before ++ Hull members ∷ []) ++ Cuts [] ∷ End 0 ∷ [] ≡ body (entries ++ one ∷ []) 0 =
-    append_assoc before (Hull members ∷ []) (Cuts [] ∷ End 0 ∷ []) ∙ sym (append_assoc before (entry_lines one) (End 0 ∷ [])) ∙ ap (λ ls. ls ++ End 0 ∷ []) (sym (flat_map-append entry_lines entries (one ∷ []))) in
-    (Cuts [], record {
-      later = End 0 ∷ [];
-      number = 0;
-      header = header;
-      entries = entries ++ one ∷ [];
-      together = ap (λ ls. header_lines header ++ ls) same ∙ sym (lines_are 0 header (entries ++ one ∷ []));
-    })
+    append_assoc before (Hull members ∷ []) (Cuts [] ∷ End 0 ∷ []) ∙ sym (append_assoc before (entry_lines one) (End 0 ∷ [])) ∙ ap (λ ls. ls ++ End 0 ∷ []) (sym (flat_map-append entry_lines entries (one ∷ []))) in (
+      Cuts [],
+      record {
+        later = End 0 ∷ [];
+        number = 0;
+        header = header;
+        entries = entries ++ one ∷ [];
+        together = ap (λ ls. header_lines header ++ ls) same ∙ sym (lines_are 0 header (entries ++ one ∷ []));
+      },
+    )
 
 -- how many lines there are
 pub length_entries : (entries : List Entry) → length (flat_map entry_lines entries) ≡ 2 * length entries

@@ -27,7 +27,7 @@ pub fn title(bytes: &[u8]) -> Option<Found<'_>>
 
 pub fn run(bytes: &[u8]) -> Option<Found<'_>>
     ensures { MatchOption result ((notion : AnyNotion) (order : ℕ) (model : AnyModel) (rest : List ℕ)
-            → LineFirst bytes.now (line.Run notion order model) rest → ⊥)
+        → LineFirst bytes.now (line.Run notion order model) rest → ⊥)
         (λ found. LineFirst bytes.now found.0 found.1.now) }
 {
     let (notion, rest) = notion_after(bytes, b"notion ")?;
@@ -44,7 +44,7 @@ pub fn run(bytes: &[u8]) -> Option<Found<'_>>
 
 pub fn counts(bytes: &[u8]) -> Option<Found<'_>>
     ensures { MatchOption result ((probes rows tuples : ℕ) (rest : List ℕ)
-            → LineFirst bytes.now (line.Counts probes rows tuples) rest → ⊥)
+        → LineFirst bytes.now (line.Counts probes rows tuples) rest → ⊥)
         (λ found. LineFirst bytes.now found.0 found.1.now) }
 {
     let (probes, rest) = small_after(bytes, b"probes ")?;

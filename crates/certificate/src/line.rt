@@ -16,7 +16,11 @@ pub enum Line {
         model: Model,
     },
     /// How many probes, rows of the table of terms and tuples of probes there are.
-    Counts { probes: u32, rows: u32, tuples: u64 },
+    Counts {
+        probes: u32,
+        rows: u32,
+        tuples: u64,
+    },
     /// The members of a hull, ascending.
     Hull(Sequence<u32>),
     /// The rows that are cut, in order.

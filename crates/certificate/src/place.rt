@@ -34,11 +34,7 @@ fn first_line(alloc: Global, bytes: &[u8]) -> Result<Option<Found<'_>>, NoMemory
 }
 
 /// The line that begins at a place, and the place after its line feed; or `None` where no line of any form begins there.
-pub fn read_line(
-    alloc: Global,
-    bytes: &[u8],
-    at: usize,
-) -> Result<Option<(Line, usize)>, NoMemory>
+pub fn read_line(alloc: Global, bytes: &[u8], at: usize) -> Result<Option<(Line, usize)>, NoMemory>
     requires { at ≤ length bytes.now }
     ensures { IfOk result (λ form. MatchOption form (HasNoLineAt bytes.now at) (λ found. StandsAt bytes.now at found.0 found.1)) }
 {

@@ -99,7 +99,7 @@ impl<'a> Reader<'a> {
         ensures input { self.new.bytes.now ≡ self.old.bytes.now }
         ensures line { MatchResult result
             (λ run. ReadsOne self.old.bytes.now self.old.place self.old.number (line.Run run.0 run.1 run.2)
-                self.new.place self.new.number)
+            self.new.place self.new.number)
             (IsMisfit is_run self.old.bytes.now self.old.place self.old.number) }
     {
         let Line::Run {
@@ -117,7 +117,7 @@ impl<'a> Reader<'a> {
         ensures input { self.new.bytes.now ≡ self.old.bytes.now }
         ensures line { MatchResult result
             (λ counts. ReadsOne self.old.bytes.now self.old.place self.old.number (line.Counts counts.0 counts.1 counts.2)
-                self.new.place self.new.number)
+            self.new.place self.new.number)
             (IsMisfit is_counts self.old.bytes.now self.old.place self.old.number) }
     {
         let Line::Counts {
@@ -158,7 +158,7 @@ impl<'a> Reader<'a> {
         ensures input { self.new.bytes.now ≡ self.old.bytes.now }
         ensures line { MatchResult result
             (λ hull. ReadsOne self.old.bytes.now self.old.place self.old.number (hull_or_end entries hull)
-                self.new.place self.new.number)
+            self.new.place self.new.number)
             (IsWrongEnd self.old.bytes.now self.old.place self.old.number entries) }
     {
         match self.next_line()? {
@@ -180,7 +180,7 @@ impl<'a> Reader<'a> {
         ensures input { self.new.bytes.now ≡ self.old.bytes.now }
         ensures line { MatchResult result
             (λ rows. ReadsOne self.old.bytes.now self.old.place self.old.number (line.Cuts rows)
-                self.new.place self.new.number)
+            self.new.place self.new.number)
             (IsMisfit is_cuts self.old.bytes.now self.old.place self.old.number) }
     {
         let Line::Cuts(rows) = self.next_line()? else {

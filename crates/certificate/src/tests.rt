@@ -54,12 +54,7 @@ fn finds_the_first_fault(rt: HostRuntime) -> Result<(), Fail> {
         (2, "notion si order 1 model value\n", 2, Why::Form),
         (2, "notion ni order 1 model values\n", 2, Why::Form),
         (2, "notion ni order +1 model value\n", 2, Why::Form),
-        (
-            2,
-            "notion ni order 4294967296 model value\n",
-            2,
-            Why::Form,
-        ),
+        (2, "notion ni order 4294967296 model value\n", 2, Why::Form),
         (2, "notion ni order 1 model value \n", 2, Why::Form),
         (3, "probes 5 rows 8 tuples\n", 3, Why::Form),
         (3, "probes 5  rows 8 tuples 5\n", 3, Why::Form),
@@ -94,7 +89,11 @@ fn finds_the_first_fault(rt: HostRuntime) -> Result<(), Fail> {
     ] {
         let text = with_line(alloc, number, line)?;
         let bad = ReadBad::Bad { line: at, why };
-        assert_eq!(rt; fault(&rt, alloc, text.as_slice()), Some(bad), "{number} {line}");
+        assert_eq!(rt;
+            fault(&rt, alloc, text.as_slice()),
+            Some(bad),
+            "{number} {line}"
+        );
     }
     Ok(())
 }

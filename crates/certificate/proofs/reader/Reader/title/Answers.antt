@@ -24,13 +24,13 @@ returns-then-version-eq-VERSION-clause-line c =
 pub returns-clause-line : goal.returns-clause-line
 returns-clause-line c =
     let self = c.args.self.now in
-    subst (λ (bad : ReadBad). IsMisfit is_title c.args.self.now.bytes.now c.args.self.now.place c.args.self.now.number bad) (sym c.bad.ensures)
+    subst (λ (bad : ReadBad). IsMisfit is_title c.args.self.now.bytes.now c.args.self.now.place c.args.self.now.number bad) (sym c.bad-2.ensures)
     (misfit is_title self.bytes.now self.place self.number c.in_ok-version.field-0 c.next_line.new.self.place c.next_line.new.self.number
     c.in_ok-version.ensures.line (not_title c.in_ok-version.field-0 c.in-Title.version c.in-Title.is c.if-version-eq-VERSION.false))
 
 pub returns-in_default-clause-line : goal.returns-in_default-clause-line
 returns-in_default-clause-line c =
     let self = c.args.self.now in
-    subst (λ (bad : ReadBad). IsMisfit is_title c.args.self.now.bytes.now c.args.self.now.place c.args.self.now.number bad) (sym c.bad-in_default.ensures)
+    subst (λ (bad : ReadBad). IsMisfit is_title c.args.self.now.bytes.now c.args.self.now.place c.args.self.now.number bad) (sym c.bad.ensures)
     (misfit is_title self.bytes.now self.place self.number c.in_ok-version.field-0 c.next_line.new.self.place c.next_line.new.self.number
     c.in_ok-version.ensures.line (no_title c.in_ok-version.field-0 c.in_default.not-Title))
