@@ -1,0 +1,4 @@
+pub mod Lines
+pub mod Certificates
+pub mod Parts
+pub mod Reading
