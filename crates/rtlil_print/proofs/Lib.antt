@@ -13,3 +13,4 @@ pub mod PrintedWires
 pub mod PrintedItems
 pub mod PrintedNames
 pub mod RoundTrip
+pub mod SameText

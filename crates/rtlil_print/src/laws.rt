@@ -1,6 +1,6 @@
 //! What a reader may want to know of the definitions. Each law is a contract; its body does nothing.
 
-ghost use Rattle.std.specs.Prelude.{ℕ, List, IsSome};
+ghost use Rattle.std.specs.Prelude.{◌≡◌, ℕ, List, IsSome};
 ghost use Rattle.circuit_types.specs.Top.{top_of};
 ghost use Rattle.circuit_types.specs.declared.tree.Tree.{Tree};
 ghost use Rattle.rtlil_tree.specs.Text.{Stands};
@@ -16,4 +16,9 @@ pub fn what_stands_is_printable()
 /// The printed text of a printable tree stands for that tree, with the numbers of the lines of the printed text.
 pub fn reads_as_printed()
     ensures { (t : Tree) → IsPrintable t → Stands (printed t) (with_printed_lines t) }
+{}
+
+/// The numbers of lines are not printed.
+pub fn lines_are_not_printed()
+    ensures { (t : Tree) → printed (with_printed_lines t) ≡ printed t }
 {}

@@ -13,7 +13,7 @@ mod signal;
 mod value;
 mod wire;
 
-pub use laws::{reads_as_printed, what_stands_is_printable};
+pub use laws::{lines_are_not_printed, reads_as_printed, what_stands_is_printable};
 pub use print::print_tree;
 
 #[cfg(test)]

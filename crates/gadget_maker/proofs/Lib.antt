@@ -1,0 +1,13 @@
+pub mod Each
+pub mod Placing
+pub mod Counting
+pub mod Made
+pub mod CellsPut
+pub mod Numbering
+pub mod Within
+pub mod Names
+pub mod Distinct
+pub mod Once
+pub mod Pieces
+pub mod Fitting
+pub mod Printing
