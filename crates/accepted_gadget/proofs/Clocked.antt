@@ -21,12 +21,12 @@ use Rattle.circuit_types.specs.declared.refusal.Refusal.TheVariants.{NoteForm, N
 use Rattle.circuit_types.specs.declared.tree.Item.{Item}
 use Rattle.share_notes.specs.declared.direction.Direction.TheVariants as direction
 use Rattle.share_notes.specs.declared.mark.MarkedWire.{MarkedWire}
-use Rattle.share_notes.specs.Causes.{is_wrong, is_absent, form_lines, missing_lines, share_causes, role_causes}
+use Rattle.share_notes.specs.Causes.{is_wrong, is_absent, form_lines, missing_lines, gap_lines, double_lines, share_causes, role_causes}
 use Rattle.share_notes.specs.Clocks.{is_clock, is_clock_mark, clock_bits, further_clocks, is_clock_source, is_misread, misread_pins, ends_at_clock, misread_wires, misuses, clock_lines}
 use Rattle.share_notes.specs.Lines.{wire_lines}
 use Rattle.share_notes.specs.Marks.{marked_wires}
 use Rattle.share_notes.specs.PortOrder.{in_port_order}
-use Rattle.share_notes.specs.Shares.{share_count, numbered_shares, single_lines}
+use Rattle.share_notes.specs.Shares.{share_count, numbered_shares, has_share_note, single_lines}
 use Rattle.gadget_maker.specs.Gadget.{all_items}
 use Rattle.gadget_maker.specs.Listed.{placed}
 use Rattle.gadget_maker.proofs.Each.{Each}
@@ -37,7 +37,7 @@ use Rattle.accepted_gadget.proofs.Driving.{gate_kind, plain_flop, gate_letters, 
 use Rattle.accepted_gadget.proofs.Building.{IsGadget, nets_of, no_lines, none_pass}
 use Rattle.accepted_gadget.proofs.Shaped.{is_gadget}
 use Rattle.accepted_gadget.proofs.Levelled.{NetDress, Along, src, end_of, net_cell_for, IsNetCell, net_cells}
-use Rattle.accepted_gadget.proofs.Noted.{IsBare, with_ports, inner_marks, all_bare, marked, port_order, numbered_alike, share_count_is, AreShared, shared}
+use Rattle.accepted_gadget.proofs.Noted.{IsBare, with_ports, inner_marks, all_bare, marked, port_order, numbered_alike, share_count_is, in_shares, out_shares, AreShared, shared}
 
 -- ---- the clock
 
@@ -161,16 +161,16 @@ causes_by ws nets =
     ∷ share_causes (share_count ws) (single_lines (share_count ws) ws) (clock_lines ws nets)
     (numbered_shares direction.Input (in_port_order ws)) (numbered_shares direction.Output (in_port_order ws))
 
-shares_clear : (d n : ℕ) (single clocks : List ℕ) (ws : List MarkedWire) → Each IsBare ws → AreShared d → n ≡ share_count (with_ports d []) → single ≡ [] → clocks ≡ []
+shares_clear : (d n : ℕ) (single clocks : List ℕ) (ws : List MarkedWire) → Each IsBare ws → AreShared d → n ≡ d → single ≡ [] → clocks ≡ []
     → IsClear (share_causes n single clocks (numbered_shares direction.Input (in_port_order (with_ports d ws))) (numbered_shares direction.Output (in_port_order (with_ports d ws))))
 shares_clear d n single clocks ws h sharing e s c =
-    let input = ap (numbered_shares direction.Input) (port_order d ws h) ∙ numbered_alike direction.Input ws (with_ports d []) h in
-    let output = ap (numbered_shares direction.Output) (port_order d ws h) ∙ numbered_alike direction.Output ws (with_ports d []) h in
+    let input = ap (numbered_shares direction.Input) (port_order d ws h) ∙ (numbered_alike direction.Input ws (with_ports d []) h ∙ sharing.ins) in
+    let output = ap (numbered_shares direction.Output) (port_order d ws h) ∙ (numbered_alike direction.Output ws (with_ports d []) h ∙ sharing.outs) in
     subst (λ v. IsClear (share_causes v single clocks (numbered_shares direction.Input (in_port_order (with_ports d ws))) (numbered_shares direction.Output (in_port_order (with_ports d ws))))) (sym e)
-    (subst (λ v. IsClear (share_causes (share_count (with_ports d [])) single clocks v (numbered_shares direction.Output (in_port_order (with_ports d ws))))) (sym input)
-    (subst (λ v. IsClear (share_causes (share_count (with_ports d [])) single clocks (numbered_shares direction.Input (with_ports d [])) v)) (sym output)
-    (subst (λ v. IsClear (share_causes (share_count (with_ports d [])) v clocks (numbered_shares direction.Input (with_ports d [])) (numbered_shares direction.Output (with_ports d [])))) (sym s)
-    (no_lines _ sharing.gaps, (no_lines _ sharing.doubles, (no_lines clocks c, tt))))))
+    (subst (λ v. IsClear (share_causes d single clocks v (numbered_shares direction.Output (in_port_order (with_ports d ws))))) (sym input)
+    (subst (λ v. IsClear (share_causes d single clocks (in_shares d) v)) (sym output)
+    (subst (λ v. IsClear (share_causes d v clocks (in_shares d) (out_shares d))) (sym s)
+    (no_lines (gap_lines d [] (in_shares d) (out_shares d)) sharing.gaps, (no_lines (double_lines (in_shares d) (out_shares d)) sharing.doubles, (no_lines clocks c, tt))))))
 
 ports_clear : (d : ℕ) (ws : List MarkedWire) (nets : Nets) → Each IsBare ws → AreShared d → misuses (is_clock_source (0 ∷ [])) nets ≡ []
     → IsClear (causes_by (with_ports d ws) nets)
@@ -181,9 +181,9 @@ ports_clear d ws nets h sharing well = (
         (ap (map (λ (w : MarkedWire). w.line))
         (none_pass IsBare (λ (w : MarkedWire). is_input w.port && is_absent w.mark) (λ w b. ap (λ p. is_input p && is_absent w.mark) b.inner) ws h)),
     shares_clear d (share_count (with_ports d ws)) (single_lines (share_count (with_ports d ws)) (with_ports d ws)) (clock_lines (with_ports d ws) nets) ws h sharing
-        (share_count_is d ws h)
-        (ap (λ n. single_lines n (with_ports d ws)) (share_count_is d ws h)
-        ∙ cond-false (share_count (with_ports d []) == 1) _ [] sharing.several)
+        (share_count_is d ws h ∙ sharing.count)
+        (ap (λ n. single_lines n (with_ports d ws)) (share_count_is d ws h ∙ sharing.count)
+        ∙ cond-false (d == 1) (wire_lines has_share_note (with_ports d ws)) [] sharing.several)
         (clocks_clear d ws nets h well),
   ),
 )

@@ -33,7 +33,7 @@ use Rattle.circuit_types.specs.declared.roles.Roles.{Roles}
 use Rattle.circuit_types.proofs.Listing.{order_length}
 use Rattle.circuit_types.specs.DataSources.{settled_sources}
 use Rattle.expr_table.specs.Table.{terms, leaves, with_term, has_term}
-use Rattle.expr_table.specs.Term.{Term}
+use Rattle.expr_table.specs.Term.{Term, xor_of}
 use Rattle.expr_table.specs.declared.instance.Notion.TheVariants.{Probing}
 use Rattle.expr_table.proofs.Rows.{length-terms}
 use Rattle.expr_table.proofs.Leaves.{length-leaves}
@@ -61,9 +61,9 @@ filter_length p (x ∷ xs) =
 -- ---- few inputs, for each number of shares
 
 pub record HasFewInputs (r : Roles) : Type 0 where
-  pub inputs : length r.inputs ≤ 153
-  pub shares : r.shares ≤ 16
-  pub secrets : length r.secrets ≤ 32
+  pub few_given : length r.inputs ≤ 153
+  pub few_shares : r.shares ≤ 16
+  pub few_secrets : length r.secrets ≤ 32
 
 tested : (d : ℕ) → 2 ≤ d → d ≤ 16
     → (nat_le (length (port_roles d).inputs) 153 && (nat_le (port_roles d).shares 16 && nat_le (length (port_roles d).secrets) 32)) ≡ true
@@ -78,7 +78,11 @@ few_inputs d some few =
     let h = tested d some few in
     let a = and_parts (nat_le (length (port_roles d).inputs) 153) (nat_le (port_roles d).shares 16 && nat_le (length (port_roles d).secrets) 32) h in
     let b = and_parts (nat_le (port_roles d).shares 16) (nat_le (length (port_roles d).secrets) 32) a.1 in
-    record { inputs = leb-true _ _ a.0; shares = leb-true _ _ b.0; secrets = leb-true _ _ b.1 }
+    record {
+      few_given = leb-true (length (port_roles d).inputs) 153 a.0;
+      few_shares = leb-true (port_roles d).shares 16 b.0;
+      few_secrets = leb-true (length (port_roles d).secrets) 32 b.1;
+    }
 
 -- ---- probes
 
@@ -91,13 +95,14 @@ module _ (roles : Roles) (nets : Nets) (few : HasFewInputs roles) (small : lengt
       let c = length-map (range_with_len 0 (length nets.cells)) (λ k. source.Cell k) in
       let e = length-range_with_len 0 (length nets.cells) in
       let f = length-append (probed_inputs roles.inputs) (map (λ k. source.Cell k) (range_with_len 0 (length nets.cells))) in
-      omega (arith, a, b, c, e, f, few.inputs, small)
+      omega (arith, a, b, c, e, f, few.few_given, small)
 
   by_kind_length : (kind : CellKind) (xs : List Source) (s : Source) → length xs ≤ 2206 → length (by_kind kind xs (s ∷ [])) ≤ 2206
   by_kind_length (Gate g) xs s h = h
   by_kind_length (Flop f) xs s h = omega arith
 
   few_seen : (s : Source) → length (glitch_seen roles nets s) ≤ 2206
+  unfolding glitch_seen
   few_seen (source.Cell k) =
       let a = filter_length (has_source (stable_sources roles nets (source.Cell k))) (probed_sources roles nets) in
       by_kind_length (cell_at nets k).kind (filter (has_source (stable_sources roles nets (source.Cell k))) (probed_sources roles nets)) (source.Cell k)
@@ -148,19 +153,19 @@ module _ (roles : Roles) (nets : Nets) (few : HasFewInputs roles) (small : lengt
 
   joins_length : (t : Term) (us : List Term) → length (joins t us) ≡ length us
   joins_length t [] = refl
-  joins_length t (u ∷ us) = ap suc (joins_length _ us)
+  joins_length t (u ∷ us) = ap suc (joins_length (xor_of t u) us)
 
   few_share_bits : (s i : ℕ) → length (share_bits roles s i) ≤ 153
   few_share_bits s i =
       let a = length-map (filter (λ (x : InputRole). is_share s i x.role) roles.inputs) (λ (x : InputRole). x.bit) in
       let b = filter_length (λ (x : InputRole). is_share s i x.role) roles.inputs in
-      omega (arith, a, b, few.inputs)
+      omega (arith, a, b, few.few_given)
 
   few_drawn_bits : (s : ℕ) → length (drawn_bits roles s) ≤ 2295
   few_drawn_bits s =
       let a = length_flat (share_bits roles s) 153 (few_share_bits s) (range_with_len 0 (roles.shares - 1)) in
       let b = length-range_with_len 0 (roles.shares - 1) in
-      omega (arith, a, b, few.shares)
+      omega (arith, a, b, few.few_shares)
 
   few_joins : (g r : Leaf → Term) (x : Role) → length (role_joins roles g r x) ≤ 2295
   few_joins g r (role.Share s i) =
@@ -175,10 +180,11 @@ module _ (roles : Roles) (nets : Nets) (few : HasFewInputs roles) (small : lengt
   few_joins g r (role.Held v) = omega arith
 
   few_made : length (made_for_inputs secrets roles Settled) ≤ 351135
+  unfolding made_for_inputs
   few_made =
       let a = length_flat (λ (x : InputRole). role_joins roles (given_term secrets roles Settled) (drawn_term secrets roles Settled) x.role) 2295
           (λ x. few_joins (given_term secrets roles Settled) (drawn_term secrets roles Settled) x.role) roles.inputs in
-      omega (arith, a, few.inputs)
+      omega (arith, a, few.few_given)
 
   one_leaf : (test : Role → Bool) (i : InputRole) → length (if test i.role then world.input i.bit 0 ∷ [] else []) ≤ 1
   one_leaf test i = cond_both (test i.role) (world.input i.bit 0 ∷ []) [] (λ v. length v ≤ 1) (λ e. omega arith) (λ e. omega arith)
@@ -187,7 +193,7 @@ module _ (roles : Roles) (nets : Nets) (few : HasFewInputs roles) (small : lengt
   few_leaves test =
       let a = length_flat (λ (i : InputRole). if test 0 i.role then world.input i.bit 0 ∷ [] else []) 1 (one_leaf (test 0)) roles.inputs in
       let b = length-append (leaves_in (test 0) roles 0) [] in
-      omega (arith, a, b, few.inputs)
+      omega (arith, a, b, few.few_given)
 
   few_input_leaves : length (input_leaves secrets roles Settled) ≤ 185
   unfolding input_leaves
@@ -196,7 +202,7 @@ module _ (roles : Roles) (nets : Nets) (few : HasFewInputs roles) (small : lengt
       let b = length-range_with_len 0 (length roles.secrets) in
       let c = few_leaves (is_input_leaf secrets) in
       let e = length-append (secret_leaves secrets roles) (leaves_of (is_input_leaf secrets) roles Settled) in
-      omega (arith, a, b, c, e, few.secrets)
+      omega (arith, a, b, c, e, few.few_secrets)
 
   few_random_leaves : length (random_leaves secrets roles Settled) ≤ 153
   unfolding random_leaves

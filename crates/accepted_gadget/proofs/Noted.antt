@@ -33,13 +33,14 @@ use Rattle.share_notes.specs.declared.note.Note.TheVariants as kind
 use Rattle.share_notes.specs.declared.mark.Mark.{Mark}
 use Rattle.share_notes.specs.declared.mark.Mark.TheVariants.{Absent, Wrong, Noted}
 use Rattle.share_notes.specs.declared.mark.MarkedWire.{MarkedWire}
+use Rattle.share_notes.specs.declared.shares.NumberedShare.{NumberedShare}
 use Rattle.share_notes.specs.Causes.{is_wrong, is_absent, form_lines, missing_lines, gap_lines, double_lines, share_causes, role_causes}
 use Rattle.share_notes.specs.Clocks.{is_clock, clock_bits, further_clocks, is_clock_source, is_misread, misread_pins, ends_at_clock, misread_wires, misuses, clock_lines}
 use Rattle.share_notes.specs.Lines.{wire_lines}
 use Rattle.share_notes.specs.Marks.{masks, mark_by, mark_in, mark_of, marked_from, marked_wires}
 use Rattle.share_notes.specs.PortOrder.{port_number, numbers_end, numbered_wires, in_port_order}
 use Rattle.share_notes.specs.Reading.{note_named, plain_note, share_of, shares_of, name_of, index_of}
-use Rattle.share_notes.specs.Roles.{roles_of, roles_by, input_roles, output_share}
+use Rattle.share_notes.specs.Roles.{roles_of, roles_by, noted_roles, input_roles, output_share}
 use Rattle.share_notes.specs.Shares.{GivenBit, top_share, share_count, has_direction, wire_shares, given_by, given, distinct, secrets, place_of, numbered_share, numbered_shares, single_lines}
 use Rattle.rtlil_print.specs.PrintedLines.{item_height, items_at}
 use Rattle.gadget_maker.specs.Gadget.{pairs, pair_count, crossings, masked_name, kept_name, sum_name, wire_on, note, inner_wire, product_wires, crossing_wires, sum_wires, inner_wires, product_cells, masking_cells, register_cells, sum_cells, all_cells, named_from, all_items}
@@ -156,10 +157,10 @@ bare_cells seed d =
     (each-append IsBareItem maskings (registers ++ sums) (each_flat IsBareItem (masking_cells seed d) xs (λ x. (tt, tt)))
     (each-append IsBareItem registers sums (each_flat IsBareItem register_cells xs (λ x. (tt, tt))) (each_flat IsBareItem (sum_cells d) xs (λ x. (tt, tt)))))
 
-abbrev inner_items : ℕ → ℕ → List Item
+abbrev pub inner_items : ℕ → ℕ → List Item
 inner_items seed d = inner_wires d (pairs d) (crossings d) ++ all_cells seed d (pairs d) (crossings d)
 
-abbrev inner_marks : ℕ → ℕ → List MarkedWire
+abbrev pub inner_marks : ℕ → ℕ → List MarkedWire
 inner_marks seed d = marked_from (1 + d + d + pair_count d + d) (wires (items_at 13 (named_from 0 (inner_items seed d))))
 
 pub all_bare : (seed d : ℕ) → Each IsBare (inner_marks seed d)
@@ -243,10 +244,10 @@ given_alike dir (w ∷ ws) ps h =
 roles_alike : (ss : List Secret) (ws ps : List MarkedWire) → Each IsBare ws → input_roles ss (ws ++ ps) ≡ input_roles ss ps
 roles_alike ss [] ps h = refl
 roles_alike ss (w ∷ ws) ps h =
-    ap (λ v. v ++ input_roles ss (ws ++ ps)) (cond-false (has_direction direction.Input w.port) _ [] (none_given direction.Input w.port h.0.inner))
+    ap (λ v. v ++ input_roles ss (ws ++ ps)) (cond-false (has_direction direction.Input w.port) (noted_roles ss w w.mark) [] (none_given direction.Input w.port h.0.inner))
     ∙ roles_alike ss ws ps h.1
 
-numbered_alike : (dir : Direction) (ws ps : List MarkedWire) → Each IsBare ws → numbered_shares dir (ws ++ ps) ≡ numbered_shares dir ps
+pub numbered_alike : (dir : Direction) (ws ps : List MarkedWire) → Each IsBare ws → numbered_shares dir (ws ++ ps) ≡ numbered_shares dir ps
 unfolding numbered_shares
 numbered_alike dir ws ps h = ap (λ gs. map (numbered_share (secrets gs)) gs) (given_alike dir ws ps h)
 
@@ -296,21 +297,40 @@ roles_are seed d few =
 
 -- ---- for each number of shares
 
+-- the shares of a and b, and those of c
+abbrev pub in_shares : ℕ → List NumberedShare
+in_shares d =
+    map (λ i. record { line = 6; bit = 1 + i; secret = 0; share = i }) (range_with_len 0 d)
+    ++ map (λ i. record { line = 8; bit = 1 + d + i; secret = 1; share = i }) (range_with_len 0 d)
+
+abbrev pub out_shares : ℕ → List NumberedShare
+out_shares d = map (λ i. record { line = 12; bit = 1 + d + d + pair_count d + i; secret = 0; share = i }) (range_with_len 0 d)
+
 -- the shares are there, each once
 pub record AreShared (d : ℕ) : Type 0 where
-  pub several : (share_count (with_ports d []) == 1) ≡ false
-  pub gaps : gap_lines (share_count (with_ports d [])) [] (numbered_shares direction.Input (with_ports d [])) (numbered_shares direction.Output (with_ports d [])) ≡ []
-  pub doubles : double_lines (numbered_shares direction.Input (with_ports d [])) (numbered_shares direction.Output (with_ports d [])) ≡ []
+  pub several : (d == 1) ≡ false
+  pub count : share_count (with_ports d []) ≡ d
+  pub ins : numbered_shares direction.Input (with_ports d []) ≡ in_shares d
+  pub outs : numbered_shares direction.Output (with_ports d []) ≡ out_shares d
+  pub gaps : gap_lines d [] (in_shares d) (out_shares d) ≡ []
+  pub doubles : double_lines (in_shares d) (out_shares d) ≡ []
 
 pub shared : (d : ℕ) → 2 ≤ d → d ≤ 16 → AreShared d
 unfolding share_count numbered_shares given secrets distinct place_of
 shared =
     for_each_shares AreShared
-    (record { several = refl; gaps = refl; doubles = refl }) (record { several = refl; gaps = refl; doubles = refl })
-    (record { several = refl; gaps = refl; doubles = refl }) (record { several = refl; gaps = refl; doubles = refl })
-    (record { several = refl; gaps = refl; doubles = refl }) (record { several = refl; gaps = refl; doubles = refl })
-    (record { several = refl; gaps = refl; doubles = refl }) (record { several = refl; gaps = refl; doubles = refl })
-    (record { several = refl; gaps = refl; doubles = refl }) (record { several = refl; gaps = refl; doubles = refl })
-    (record { several = refl; gaps = refl; doubles = refl }) (record { several = refl; gaps = refl; doubles = refl })
-    (record { several = refl; gaps = refl; doubles = refl }) (record { several = refl; gaps = refl; doubles = refl })
-    (record { several = refl; gaps = refl; doubles = refl })
+    (record { several = refl; count = refl; ins = refl; outs = refl; gaps = refl; doubles = refl })
+    (record { several = refl; count = refl; ins = refl; outs = refl; gaps = refl; doubles = refl })
+    (record { several = refl; count = refl; ins = refl; outs = refl; gaps = refl; doubles = refl })
+    (record { several = refl; count = refl; ins = refl; outs = refl; gaps = refl; doubles = refl })
+    (record { several = refl; count = refl; ins = refl; outs = refl; gaps = refl; doubles = refl })
+    (record { several = refl; count = refl; ins = refl; outs = refl; gaps = refl; doubles = refl })
+    (record { several = refl; count = refl; ins = refl; outs = refl; gaps = refl; doubles = refl })
+    (record { several = refl; count = refl; ins = refl; outs = refl; gaps = refl; doubles = refl })
+    (record { several = refl; count = refl; ins = refl; outs = refl; gaps = refl; doubles = refl })
+    (record { several = refl; count = refl; ins = refl; outs = refl; gaps = refl; doubles = refl })
+    (record { several = refl; count = refl; ins = refl; outs = refl; gaps = refl; doubles = refl })
+    (record { several = refl; count = refl; ins = refl; outs = refl; gaps = refl; doubles = refl })
+    (record { several = refl; count = refl; ins = refl; outs = refl; gaps = refl; doubles = refl })
+    (record { several = refl; count = refl; ins = refl; outs = refl; gaps = refl; doubles = refl })
+    (record { several = refl; count = refl; ins = refl; outs = refl; gaps = refl; doubles = refl })

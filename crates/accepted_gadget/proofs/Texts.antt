@@ -1,6 +1,6 @@
 -- The text of a gadget is short.
 use Rattle.std.proofs.Common.{◌≡◌, ℕ, zero, suc, ◌+◌, ◌-◌, ◌*◌, ◌/◌, ◌%◌, ◌^◌, ◌<◌, ◌≤◌, ◌==◌, ◌&&◌, nat_lt, nat_le, if◌then◌else◌, true, List, [], ◌∷◌, ◌++◌, length, length-append, codes, refl, sym, ap, subst, ◌∙◌, arith}
-use Rattle.std.specs.Fmt.{decimal}
+use Rattle.std.specs.Fmt.{decimal, digits}
 use Rattle.std.specs.List.{flat_map}
 use Rattle.std.proofs.lemmas.Bool.{cond_both, leb-true}
 use Rattle.std.proofs.lemmas.Fmt.{length-decimal-le}
@@ -32,10 +32,10 @@ use Rattle.accepted_gadget.proofs.Spots.{for_each_shares}
 few_digits : (n : ℕ) → n < 2 ^ 31 → length (decimal n) ≤ 10
 few_digits n low = length-decimal-le 10 n (omega arith) (omega (arith, low)) (omega (arith, low))
 
-line_length : (indent : List ℕ) (key : Keyword) (text : List ℕ) → length (line indent key text) ≡ length indent + (length (spelling key) + (length text + 1))
-line_length indent key text =
-    let a = length-append indent (spelling key ++ (text ++ codes "\n")) in
-    let b = length-append (spelling key) (text ++ codes "\n") in
+line_length : (indent : List ℕ) (kw : Keyword) (text : List ℕ) → length (line indent kw text) ≡ length indent + (length (spelling kw) + (length text + 1))
+line_length indent kw text =
+    let a = length-append indent (spelling kw ++ (text ++ codes "\n")) in
+    let b = length-append (spelling kw) (text ++ codes "\n") in
     let c = length-append text (codes "\n") in
     omega (arith, a, b, c)
 
@@ -244,6 +244,7 @@ named_length n (item.Connect c ∷ xs) = ap suc (named_length n xs)
 
 -- the ports, for each number of shares
 short_ports : (d : ℕ) → 2 ≤ d → d ≤ 16 → nat_le (length (flat_map item_lines (ports d))) 1000 ≡ true
+unfolding digits
 short_ports =
     for_each_shares (λ d. nat_le (length (flat_map item_lines (ports d))) 1000 ≡ true) refl refl refl refl refl refl refl refl refl refl refl refl refl refl refl
 
