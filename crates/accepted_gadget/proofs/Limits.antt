@@ -102,7 +102,6 @@ module _ (roles : Roles) (nets : Nets) (few : HasFewInputs roles) (small : lengt
   by_kind_length (Flop f) xs s h = omega arith
 
   few_seen : (s : Source) → length (glitch_seen roles nets s) ≤ 2206
-  unfolding glitch_seen
   few_seen (source.Cell k) =
       let a = filter_length (has_source (stable_sources roles nets (source.Cell k))) (probed_sources roles nets) in
       by_kind_length (cell_at nets k).kind (filter (has_source (stable_sources roles nets (source.Cell k))) (probed_sources roles nets)) (source.Cell k)

@@ -274,17 +274,26 @@ items_length seed d some few =
         (each-append IsShortNamed (inner_wires d (pairs d) (crossings d)) (all_cells seed d (pairs d) (crossings d)) (short_wires seed d few) (short_cells seed d few))) in
     omega (arith, split, a, b, count, all, named, short)
 
-pub short_text : (seed d : ℕ) → 2 ≤ d → d ≤ 16 → length (printed (gadget seed d)) ≤ most_bytes
-unfolding gadget
-short_text seed d some few =
-    let same = ap length (same_text (unnumbered seed d) ∙ text_of seed d) in
-    let items = flat_map item_lines (named_from 0 (all_items seed d)) in
-    let head = attribute_lines module_indent (top_mark ∷ []) in
-    let name = module_line (codes "\\gadget") in
-    let last = end_line module_indent in
+parts_short : (head name items last : List ℕ) → length head ≤ 100 → length name ≤ 100 → length last ≤ 100 → length items ≤ 2054000
+    → length ((head ++ (name ++ (items ++ last))) ++ []) ≤ most_bytes
+parts_short head name items last h n l most =
     let a = length-append (head ++ (name ++ (items ++ last))) [] in
     let b = length-append head (name ++ (items ++ last)) in
     let c = length-append name (items ++ last) in
     let e = length-append items last in
-    let most = items_length seed d some few in
-    omega (arith, same, a, b, c, e, most)
+    omega (arith, a, b, c, e, h, n, l, most)
+
+head_short : nat_le (length (attribute_lines module_indent (top_mark ∷ []))) 100 ≡ true
+unfolding digits
+head_short = refl
+
+pub short_text : (seed d : ℕ) → 2 ≤ d → d ≤ 16 → length (printed (gadget seed d)) ≤ most_bytes
+unfolding gadget
+short_text seed d some few =
+    let items = flat_map item_lines (named_from 0 (all_items seed d)) in
+    let head = attribute_lines module_indent (top_mark ∷ []) in
+    let name = module_line (codes "\\gadget") in
+    let last = end_line module_indent in
+    subst (λ text. length text ≤ most_bytes) (sym (same_text (unnumbered seed d) ∙ text_of seed d))
+    (parts_short head name items last (leb-true (length head) 100 head_short) (leb-true (length name) 100 refl) (leb-true (length last) 100 refl)
+    (items_length seed d some few))
