@@ -301,21 +301,43 @@ module _ (d : ℕ) (ss : List Step) (items : List Item) (is : IsGadget d ss item
   unfolding net_causes
   build_clear = (
     (λ over. let most = few_bits d 0 items is.fits in omega (arith, most, over, is.small)),
-    ((λ over. let most = few_cells items in omega (arith, most, over, is.small)),
-    ((λ wide. both_ways (list_any is_too_wide (links (net_wires items) items))
-    (none_any_pass Fine is_too_wide (λ l f. ap (λ ss. not (list_all (λ s. s.narrow) ss)) f.sides) (links (net_wires items) items) fine) wide),
-    (no_cell_lines is_unsupported (λ c p. p.supported),
-    (no_cell_lines is_module (λ c p. p.no_module),
-    (no_link_lines is_unnamed (λ l f. ap (λ ss. not (list_all (λ s. s.named) ss)) f.sides),
-    (no_link_lines is_badly_sliced (λ l f. ap (λ ss. not (list_all (λ s. s.sliced) ss)) f.sides),
-    (no_link_lines is_mismatched (λ l f. ap not f.fits),
-    (no_cell_lines lacks_port (λ c p. p.ported),
-    (no_lines (redriven (net_wires items) [] (drives (net_wires items) items)) once,
-    ((λ l a. any_clash Spotted (λ r. (r.line ≡ l) × EndsNowhere (net_wires items) (drives (net_wires items) items) r.bit) (ends_somewhere l)
-    (reads (net_wires items) items) all_read a),
-    ((λ l a. any_clash Spotted (λ r. (r.line ≡ l) × Ends (net_wires items) (drives (net_wires items) items) r.bit source.Unknown) (ends_known l)
-    (reads (net_wires items) items) all_read a),
-    tt))))))))))),
+    (
+      (λ over. let most = few_cells items in omega (arith, most, over, is.small)),
+      (
+        (λ wide. both_ways (list_any is_too_wide (links (net_wires items) items))
+            (none_any_pass Fine is_too_wide (λ l f. ap (λ ss. not (list_all (λ s. s.narrow) ss)) f.sides) (links (net_wires items) items) fine) wide),
+        (
+          no_cell_lines is_unsupported (λ c p. p.supported),
+          (
+            no_cell_lines is_module (λ c p. p.no_module),
+            (
+              no_link_lines is_unnamed (λ l f. ap (λ ss. not (list_all (λ s. s.named) ss)) f.sides),
+              (
+                no_link_lines is_badly_sliced (λ l f. ap (λ ss. not (list_all (λ s. s.sliced) ss)) f.sides),
+                (
+                  no_link_lines is_mismatched (λ l f. ap not f.fits),
+                  (
+                    no_cell_lines lacks_port (λ c p. p.ported),
+                    (
+                      no_lines (redriven (net_wires items) [] (drives (net_wires items) items)) once,
+                      (
+                        (λ l a. any_clash Spotted (λ r. (r.line ≡ l) × EndsNowhere (net_wires items) (drives (net_wires items) items) r.bit) (ends_somewhere l)
+                            (reads (net_wires items) items) all_read a),
+                        (
+                          (λ l a. any_clash Spotted (λ r. (r.line ≡ l) × Ends (net_wires items) (drives (net_wires items) items) r.bit source.Unknown) (ends_known l)
+                              (reads (net_wires items) items) all_read a),
+                          tt,
+                        ),
+                      ),
+                    ),
+                  ),
+                ),
+              ),
+            ),
+          ),
+        ),
+      ),
+    ),
   )
 
   pub accepted : IsAccepted items (nets_of items)

@@ -117,8 +117,8 @@ one_gate d kind name a b y sa sb sy n p q r =
     cell (gate a b y) _ [] [] (
       undressed kind,
       ap (λ v. gadget_cell v sa sb sy) n
-      ∙ (ap (λ v. gadget_cell (gate_text kind) v sb sy) p
-      ∙ (ap (λ v. gadget_cell (gate_text kind) (signal_of d a) v sy) q ∙ ap (λ v. gadget_cell (gate_text kind) (signal_of d a) (signal_of d b) v) r)),
+          ∙ (ap (λ v. gadget_cell (gate_text kind) v sb sy) p
+          ∙ (ap (λ v. gadget_cell (gate_text kind) (signal_of d a) v sy) q ∙ ap (λ v. gadget_cell (gate_text kind) (signal_of d a) (signal_of d b) v) r)),
     ) none
 
 masking_gate : (seed d : ℕ) (x : Crossing) → Holds d (masking_steps x) (masking_cells seed d x)

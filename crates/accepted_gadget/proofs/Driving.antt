@@ -173,7 +173,7 @@ module _ (d : ℕ) (few : d ≤ 16) (ws : List NetWire) (are : AreSpotWires d ws
       let is = driven_of d k s h.0 in
       let now : IsEarlier (k + 1) x = record { spot = output s; is = is.spot; low = omega (arith, is.number); target = e.0 } in
       let later = each_weaker (IsEarlier k) (IsEarlier (k + 1))
-          (λ y b. record { spot = b.spot; is = b.is; low = omega (arith, b.low); target = b.target }) earlier before in
+      (λ y b. record { spot = b.spot; is = b.is; low = omega (arith, b.low); target = b.target }) earlier before in
       ap (λ b. cond b (x.line ∷ []) [] ++ redriven ws (earlier ++ x ∷ []) xs) (free k (output s) earlier x.target is before e.0)
       ∙ none_redriven (k + 1) ss xs (earlier ++ x ∷ []) h.1 e.2 (each-append (IsEarlier (k + 1)) earlier (x ∷ []) later (now, tt))
 

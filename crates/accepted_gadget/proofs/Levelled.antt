@@ -98,6 +98,7 @@ module _ (d : ℕ) (ss : List Step) (items : List Item) (is : IsGadget d ss item
     where
       wired : AreNets items (nets_of items) → length (nets_of items).sources ≡ bit_count (net_wires items)
       wired n = n.each_bit
+
       ended : AreNets items (nets_of items) → (k : ℕ) → k < length (nets_of items).sources
           → EndsAt (net_wires items) (drives (net_wires items) items) (Net k) (get_or (nets_of items).sources k source.Missing)
       ended n = n.ends
@@ -250,10 +251,16 @@ module _ (d : ℕ) (ss : List Step) (items : List Item) (is : IsGadget d ss item
   unfolding level_causes
   levels_clear roles = (
     none_at (λ k. not (is_levelled (nets_of items) k)) (λ k low. ap not (all_levelled k low)),
-    (none_at (λ k. not (is_settled Settled (nets_of items) k)) (λ k low. ap not (all_settled k low)),
-    (none_at (λ k. has_open_reset (held_value roles (nets_of items)) (cell_at (nets_of items) k) (cell_at (nets_of items) k).kind)
-    (λ k low. let at = at_number k low in no_reset roles (cell_at (nets_of items) k) at.step at.cell.0 at.cell.1),
-    (none_at (λ k. has_open_enable (held_value roles (nets_of items)) (cell_at (nets_of items) k) (cell_at (nets_of items) k).kind)
-    (λ k low. let at = at_number k low in no_enable roles (cell_at (nets_of items) k) at.step at.cell.0 at.cell.1),
-    tt))),
+    (
+      none_at (λ k. not (is_settled Settled (nets_of items) k)) (λ k low. ap not (all_settled k low)),
+      (
+        none_at (λ k. has_open_reset (held_value roles (nets_of items)) (cell_at (nets_of items) k) (cell_at (nets_of items) k).kind)
+            (λ k low. let at = at_number k low in no_reset roles (cell_at (nets_of items) k) at.step at.cell.0 at.cell.1),
+        (
+          none_at (λ k. has_open_enable (held_value roles (nets_of items)) (cell_at (nets_of items) k) (cell_at (nets_of items) k).kind)
+              (λ k low. let at = at_number k low in no_enable roles (cell_at (nets_of items) k) at.step at.cell.0 at.cell.1),
+          tt,
+        ),
+      ),
+    ),
   )

@@ -182,7 +182,7 @@ module _ (roles : Roles) (nets : Nets) (few : HasFewInputs roles) (small : lengt
   unfolding made_for_inputs
   few_made =
       let a = length_flat (λ (x : InputRole). role_joins roles (given_term secrets roles Settled) (drawn_term secrets roles Settled) x.role) 2295
-          (λ x. few_joins (given_term secrets roles Settled) (drawn_term secrets roles Settled) x.role) roles.inputs in
+      (λ x. few_joins (given_term secrets roles Settled) (drawn_term secrets roles Settled) x.role) roles.inputs in
       omega (arith, a, few.few_given)
 
   one_leaf : (test : Role → Bool) (i : InputRole) → length (if test i.role then world.input i.bit 0 ∷ [] else []) ≤ 1

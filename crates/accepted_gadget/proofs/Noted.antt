@@ -219,7 +219,7 @@ pub port_order : (d : ℕ) (ws : List MarkedWire) → Each IsBare ws → in_port
 unfolding in_port_order
 port_order d ws h =
     let start : flat_map (numbered_wires (with_ports d ws)) (range_with_len 0 6)
-            ≡ row d (at_number 0 ws) (at_number 1 ws) (at_number 2 ws) (at_number 3 ws) (at_number 4 ws) (at_number 5 ws) = refl in
+    ≡ row d (at_number 0 ws) (at_number 1 ws) (at_number 2 ws) (at_number 3 ws) (at_number 4 ws) (at_number 5 ws) = refl in
     ap (λ n. flat_map (numbered_wires (with_ports d ws)) (range_with_len 0 n)) (still_six ws h)
     ∙ (start
     ∙ (ap (λ v. row d v (at_number 1 ws) (at_number 2 ws) (at_number 3 ws) (at_number 4 ws) (at_number 5 ws)) (all_zero ws h)

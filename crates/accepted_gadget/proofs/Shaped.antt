@@ -68,7 +68,7 @@ in_crossings d i j a b differ =
     let c = crossing_there d i j differ in (
       c.0,
       in_flat (row_of_crossings d) (crossing i j c.0) i (shares_below d) (in_below d i a)
-      (in_flat (crossings_at d i) (crossing i j c.0) j (shares_below d) (in_below d j b) (subst (In (crossing i j c.0)) (sym c.1) (inl refl))),
+          (in_flat (crossings_at d i) (crossing i j c.0) j (shares_below d) (in_below d j b) (subst (In (crossing i j c.0)) (sym c.1) (inl refl))),
     )
 
 -- ---- each spot that is no input's is driven

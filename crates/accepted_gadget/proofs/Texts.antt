@@ -270,8 +270,8 @@ items_length seed d some few =
     let all = length-append (ports d) (inner_items seed d) in
     let named = named_length 0 (inner_items seed d) in
     let short = each_length more
-        (named_short 0 (inner_items seed d) (omega (arith, count, all))
-        (each-append IsShortNamed (inner_wires d (pairs d) (crossings d)) (all_cells seed d (pairs d) (crossings d)) (short_wires seed d few) (short_cells seed d few))) in
+    (named_short 0 (inner_items seed d) (omega (arith, count, all))
+    (each-append IsShortNamed (inner_wires d (pairs d) (crossings d)) (all_cells seed d (pairs d) (crossings d)) (short_wires seed d few) (short_cells seed d few))) in
     omega (arith, split, a, b, count, all, named, short)
 
 parts_short : (head name items last : List ℕ) → length head ≤ 100 → length name ≤ 100 → length last ≤ 100 → length items ≤ 2054000
