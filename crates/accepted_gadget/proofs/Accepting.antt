@@ -1,24 +1,18 @@
 -- The text of a gadget is accepted.
-use Rattle.std.proofs.Common.{◌≡◌, ℕ, ◌+◌, ◌-◌, ◌<◌, ◌≤◌, ◌^◌, min, List, [], ◌∷◌, ◌++◌, length, refl, sym, ap, subst, ◌∙◌, arith}
+use Rattle.std.proofs.Common.{ℕ, ◌≤◌, List, [], ◌∷◌, ◌++◌, length, sym, subst, arith}
 use Rattle.circuit_types.specs.Causes.{level_causes}
 use Rattle.circuit_types.specs.Due.{Cause, IsClear}
-use Rattle.circuit_types.specs.Items.{top_items}
-use Rattle.circuit_types.specs.Nets.{net_causes, AreNets}
 use Rattle.circuit_types.specs.Order.{order}
 use Rattle.circuit_types.specs.Probes.{probe_list, probe_causes}
 use Rattle.circuit_types.specs.declared.circuit.Circuit.{Circuit}
 use Rattle.circuit_types.specs.declared.circuit.Timing.TheVariants.{Settled}
-use Rattle.circuit_types.specs.declared.nets.Nets.{Nets}
 use Rattle.circuit_types.specs.declared.probes.Model.TheVariants.{Glitch}
-use Rattle.circuit_types.specs.declared.roles.Roles.{Roles}
 use Rattle.circuit_types.specs.declared.tree.Item.{Item}
 use Rattle.expr_table.specs.declared.instance.Notion.TheVariants.{Probing}
 use Rattle.share_notes.specs.Causes.{role_causes}
 use Rattle.share_notes.specs.Roles.{roles_of}
 use Rattle.term_build.specs.TermInstance.{term_causes}
-use Rattle.tuple_rank.specs.Tuples.{tuples}
-use Rattle.net_build.specs.Built.{IsAccepted}
-use Rattle.accepted_netlist.specs.Netlist.{Netlist, IsTreeOf, IsNetlistOf, IsAcceptedAs, netlist_causes, tuple_causes, most_tuples}
+use Rattle.accepted_netlist.specs.Netlist.{Netlist, IsNetlistOf, IsAcceptedAs, netlist_causes, tuple_causes}
 use Rattle.rtlil_print.specs.Printed.{printed}
 use Rattle.gadget_maker.specs.Gadget.{all_items, gadget}
 use Rattle.gadget_maker.specs.Listed.{placed}
@@ -28,7 +22,7 @@ use Rattle.accepted_gadget.proofs.Cells.{Holds, none, wire, cell}
 use Rattle.accepted_gadget.proofs.Building.{IsGadget, nets_of, accepted}
 use Rattle.accepted_gadget.proofs.Shaped.{is_gadget, items_are}
 use Rattle.accepted_gadget.proofs.Levelled.{cell_count, levels_clear}
-use Rattle.accepted_gadget.proofs.Noted.{port_roles, roles_are}
+use Rattle.accepted_gadget.proofs.Noted.{roles_are}
 use Rattle.accepted_gadget.proofs.Clocked.{notes_clear}
 use Rattle.accepted_gadget.proofs.Limits.{HasFewInputs, few_inputs, few_probes, probes_clear, terms_clear, few_tuples}
 use Rattle.accepted_gadget.proofs.Texts.{short_text}

@@ -1,5 +1,5 @@
 -- A gadget's module has nets, and no refusal of a module is due.
-use Rattle.std.proofs.Common.{◌≡◌, ℕ, zero, suc, ◌+◌, ◌*◌, ◌<◌, ◌≤◌, ◌==◌, ◌⊎◌, inl, inr, ⊎_elim, cond, ◌||◌, not, Bool, true, false, List, [], ◌∷◌, ◌++◌, length, map, filter, get_or, Option, Some, None, codes, refl, sym, ap, subst, ◌∙◌, arith}
+use Rattle.std.proofs.Common.{◌≡◌, ℕ, zero, suc, ◌+◌, ◌*◌, ◌<◌, ◌≤◌, ⊎_elim, cond, ◌||◌, not, Bool, true, false, List, [], ◌∷◌, length, map, filter, get_or, Option, Some, None, refl, sym, ap, subst, ◌∙◌, arith}
 use Rattle.std.specs.Prelude.{Contains}
 use Rattle.std.specs.List.{Any, find, flat_map, list_any, list_all, range_with_len}
 use Rattle.std.proofs.lemmas.Bool.{cases_Bool, cond-true, cond-false, eqb-true, eq-eqb, both_ways, lt-ltb}
@@ -8,10 +8,10 @@ use Rattle.std.proofs.lemmas.List.FromFn.{length-range_with_len, get_or-map-rang
 use Rattle.std.proofs.lemmas.List.Sums.{sum_by-cons}
 use Rattle.std.proofs.lemmas.Option.{same_Some}
 use Rattle.circuit_types.specs.Bits.{numbers}
-use Rattle.circuit_types.specs.Drives.{Drive, Driver, by_cell, by_bit, is_input_bit, is_net, drives, drives_from, Ends, at_zero, at_one, at_unknown, at_input, at_cell, through, EndsNowhere, EndsAt, redriven}
+use Rattle.circuit_types.specs.Drives.{Drive, Driver, by_cell, by_bit, is_input_bit, is_net, drives, Ends, at_zero, at_one, at_unknown, at_input, at_cell, through, EndsNowhere, EndsAt, redriven}
 use Rattle.circuit_types.specs.Due.{Never, IsClear}
 use Rattle.circuit_types.specs.Items.{wires, cells, kept_cells, net_wires, numbered, bit_count, wire_named}
-use Rattle.circuit_types.specs.Nets.{Link, links, net_causes, is_too_wide, is_unnamed, is_badly_sliced, is_mismatched, is_unsupported, is_module, lacks_port, cell_lines, link_lines, net_cell, AreNets, most_bits, most_cells}
+use Rattle.circuit_types.specs.Nets.{Link, links, net_causes, is_too_wide, is_unnamed, is_badly_sliced, is_mismatched, is_unsupported, is_module, lacks_port, cell_lines, link_lines, net_cell, AreNets}
 use Rattle.circuit_types.specs.Reads.{Read, cell_reads, is_output, wire_reads, reads}
 use Rattle.circuit_types.specs.declared.nets.NetWire.{NetWire}
 use Rattle.circuit_types.specs.declared.nets.Nets.{Nets}
@@ -22,14 +22,13 @@ use Rattle.circuit_types.specs.declared.nets.Source.TheVariants as source
 use Rattle.circuit_types.specs.declared.tree.Cell.{Cell}
 use Rattle.circuit_types.specs.declared.tree.Item.{Item}
 use Rattle.circuit_types.specs.declared.tree.Item.TheVariants as item
-use Rattle.circuit_types.specs.declared.tree.Wire.{Wire}
 use Rattle.net_build.specs.Built.{IsAccepted}
-use Rattle.net_build.proofs.EachLemmas.{any_cases, any_none, any_first, any_later, any_each}
-use Rattle.gadget_maker.proofs.Each.{Each, each-append, each_weaker}
-use Rattle.accepted_gadget.proofs.Spots.{Spot, clock, at_port, inside, is_spot, is_given, Step, outputs, index, AreSteps}
+use Rattle.net_build.proofs.EachLemmas.{any_cases, any_none, any_first, any_later}
+use Rattle.gadget_maker.proofs.Each.{Each, each-append}
+use Rattle.accepted_gadget.proofs.Spots.{Spot, clock, at_port, is_spot, is_given, Step, outputs, AreSteps}
 use Rattle.accepted_gadget.proofs.Cells.{Holds}
-use Rattle.accepted_gadget.proofs.Wires.{In, first_of, bit, good, AreSpotWires, FitsItem}
-use Rattle.accepted_gadget.proofs.Driving.{AreCells, cells_are, AreDrives, drives_are, none_redriven, spot_source, DrivenBy, any_driver, spot_ends, spot_ends_at, ReadsSpot, cells_read, IsFine, fine_links, IsPlain, plain_cells}
+use Rattle.accepted_gadget.proofs.Wires.{In, first_of, bit, AreSpotWires, FitsItem}
+use Rattle.accepted_gadget.proofs.Driving.{AreCells, cells_are, AreDrives, drives_are, none_redriven, spot_source, any_driver, spot_ends, spot_ends_at, ReadsSpot, cells_read, IsFine, fine_links, IsPlain, plain_cells}
 
 -- ---- sources where each drive is a cell's
 

@@ -1,8 +1,7 @@
 -- The cells of a gadget are those of its steps.
-use Rattle.std.proofs.Common.{◌≡◌, ℕ, zero, suc, ◌+◌, ◌/◌, ◌%◌, ◌^◌, ◌-◌, ◌==◌, if◌then◌else◌, Bool, true, false, List, [], ◌∷◌, ◌++◌, length, codes, refl, sym, ap, subst, ◌∙◌, arith}
+use Rattle.std.proofs.Common.{◌≡◌, ℕ, ◌+◌, ◌/◌, ◌%◌, ◌^◌, ◌-◌, ◌==◌, if◌then◌else◌, Bool, true, false, List, [], ◌∷◌, ◌++◌, length, codes, refl, sym, ap, subst, ◌∙◌}
 use Rattle.std.specs.List.{flat_map}
 use Rattle.std.proofs.lemmas.Bool.{cond_both}
-use Rattle.circuit_types.specs.Items.{wires}
 use Rattle.circuit_types.specs.declared.signal.Signal.{Signal}
 use Rattle.circuit_types.specs.declared.signal.Signal.TheVariants as signal
 use Rattle.circuit_types.specs.declared.tree.Cell.{Cell}

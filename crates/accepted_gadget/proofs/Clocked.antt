@@ -1,20 +1,16 @@
 -- No refusal of the notes of a gadget is due.
-use Rattle.std.proofs.Common.{◌≡◌, ℕ, zero, suc, ◌+◌, ◌<◌, ◌≤◌, ◌==◌, ◌&&◌, ◌||◌, ◌⊎◌, inl, inr, ⊎_elim, cond, Bool, true, false, not, List, [], ◌∷◌, ◌++◌, length, map, drop, filter, get_or, codes, refl, sym, ap, subst, ◌∙◌, arith}
+use Rattle.std.proofs.Common.{◌≡◌, ℕ, zero, suc, ◌+◌, ◌≤◌, ◌==◌, ◌&&◌, ◌||◌, ⊎_elim, cond, Bool, true, false, not, List, [], ◌∷◌, ◌++◌, map, filter, get_or, refl, sym, ap, subst, ◌∙◌, arith}
 use Rattle.std.specs.Prelude.{Contains}
 use Rattle.std.specs.List.{flat_map, list_any, zip, range_with_len}
 use Rattle.std.proofs.lemmas.Bool.{cases_Bool, cond-true, cond-false, cond_both, eqb-true, both_ways, lt-ltb}
-use Rattle.cell_kinds.specs.Cells.{input_letters}
-use Rattle.cell_kinds.specs.declared.kind.CellKind.TheVariants.{Gate, Flop}
 use Rattle.circuit_types.specs.Drives.{is_input}
-use Rattle.circuit_types.specs.Due.{Never, IsClear, Cause, at_lines}
+use Rattle.circuit_types.specs.Due.{IsClear, Cause, at_lines}
 use Rattle.circuit_types.specs.Items.{net_wires}
-use Rattle.circuit_types.specs.Nets.{end_in}
 use Rattle.circuit_types.specs.Reads.{is_output}
 use Rattle.circuit_types.specs.declared.nets.NetCell.{NetCell}
 use Rattle.circuit_types.specs.declared.nets.NetWire.{NetWire}
 use Rattle.circuit_types.specs.declared.nets.Nets.{Nets}
 use Rattle.circuit_types.specs.declared.nets.Pin.{Pin}
-use Rattle.circuit_types.specs.declared.nets.SignalBit.TheVariants.{Net}
 use Rattle.circuit_types.specs.declared.nets.Source.{Source}
 use Rattle.circuit_types.specs.declared.nets.Source.TheVariants as source
 use Rattle.circuit_types.specs.declared.refusal.Refusal.TheVariants.{NoteForm, NoteMissing}
@@ -22,9 +18,8 @@ use Rattle.circuit_types.specs.declared.tree.Item.{Item}
 use Rattle.share_notes.specs.declared.direction.Direction.TheVariants as direction
 use Rattle.share_notes.specs.declared.mark.MarkedWire.{MarkedWire}
 use Rattle.share_notes.specs.Causes.{is_wrong, is_absent, form_lines, missing_lines, gap_lines, double_lines, share_causes, role_causes}
-use Rattle.share_notes.specs.Clocks.{is_clock, is_clock_mark, clock_bits, further_clocks, is_clock_source, is_misread, misread_pins, ends_at_clock, misread_wires, misuses, clock_lines}
+use Rattle.share_notes.specs.Clocks.{is_clock, is_clock_mark, clock_bits, is_clock_source, is_misread, misread_pins, misread_wires, misuses, clock_lines}
 use Rattle.share_notes.specs.Lines.{wire_lines}
-use Rattle.share_notes.specs.Marks.{marked_wires}
 use Rattle.share_notes.specs.PortOrder.{in_port_order}
 use Rattle.share_notes.specs.Shares.{share_count, numbered_shares, has_share_note, single_lines}
 use Rattle.gadget_maker.specs.Gadget.{all_items}
@@ -33,7 +28,7 @@ use Rattle.gadget_maker.proofs.Each.{Each}
 use Rattle.accepted_gadget.proofs.Spots.{Spot, clock, at_port, is_spot, is_given, Step, gate, register, index, IsRead, IsStep, AreSteps, steps}
 use Rattle.accepted_gadget.proofs.Spots as spots
 use Rattle.accepted_gadget.proofs.Wires.{bit, apart, first_of}
-use Rattle.accepted_gadget.proofs.Driving.{gate_kind, plain_flop, gate_letters, flop_letters}
+use Rattle.accepted_gadget.proofs.Driving.{gate_letters, flop_letters}
 use Rattle.accepted_gadget.proofs.Building.{IsGadget, nets_of, no_lines, none_pass}
 use Rattle.accepted_gadget.proofs.Shaped.{is_gadget}
 use Rattle.accepted_gadget.proofs.Levelled.{NetDress, Along, src, end_of, net_cell_for, IsNetCell, net_cells}

@@ -1,10 +1,8 @@
 -- What the cells of a gadget drive and read, and where its bits end.
-use Rattle.std.proofs.Common.{◌≡◌, ℕ, zero, suc, ◌+◌, ◌<◌, ◌≤◌, ◌==◌, ◌||◌, ◌&&◌, ◌⊎◌, inl, inr, ⊎_elim, cond, Bool, true, false, not, List, [], ◌∷◌, ◌++◌, length, map, filter, Option, Some, None, is_none, codes, refl, sym, ap, subst, ◌∙◌, arith}
-use Rattle.std.specs.Prelude.{Contains}
-use Rattle.std.specs.List.{Any, find, flat_map, list_any}
+use Rattle.std.proofs.Common.{◌≡◌, ℕ, ◌+◌, ◌<◌, ◌≤◌, ◌==◌, ◌||◌, ◌&&◌, inl, inr, cond, Bool, true, false, not, List, [], ◌∷◌, ◌++◌, map, filter, Option, Some, None, is_none, codes, refl, sym, ap, subst, ◌∙◌, arith}
+use Rattle.std.specs.List.{Any, flat_map, list_any}
 use Rattle.std.specs.Str.{bytes_eq}
-use Rattle.std.proofs.lemmas.Bool.{cases_Bool, cond-true, cond-false, cond_both, eqb-true, eq-eqb, both_ways, or_right}
-use Rattle.std.proofs.lemmas.Option.{same_Some}
+use Rattle.std.proofs.lemmas.Bool.{cond-true, cond_both, eqb-true, or_right}
 use Rattle.cell_kinds.specs.Cells.{input_letters}
 use Rattle.cell_kinds.specs.Names.{kind_named}
 use Rattle.cell_kinds.specs.declared.kind.CellKind.{CellKind}
@@ -12,28 +10,25 @@ use Rattle.cell_kinds.specs.declared.kind.CellKind.TheVariants.{Gate, Flop}
 use Rattle.cell_kinds.specs.declared.kind.Flop.{Flop as AnyFlop}
 use Rattle.cell_kinds.specs.declared.kind.GateKind.{GateKind}
 use Rattle.cell_kinds.specs.declared.kind.GateKind.TheVariants.{And, Xor, Xnor}
-use Rattle.circuit_types.specs.Bits.{numbers}
-use Rattle.circuit_types.specs.Drives.{Drive, by_cell, by_bit, connect_of, connect_drives, output_connect, cell_drives, drives_from, is_input_bit, is_net, Ends, at_zero, at_one, at_unknown, at_input, at_cell, through, EndsNowhere, EndsAt, is_taken, redriven}
-use Rattle.circuit_types.specs.Items.{cells, is_kept, kept_cells, wire_named}
+use Rattle.circuit_types.specs.Drives.{Drive, by_cell, connect_of, connect_drives, output_connect, cell_drives, drives_from, is_net, Ends, at_input, at_cell, EndsAt, is_taken, redriven}
+use Rattle.circuit_types.specs.Items.{cells, is_kept, kept_cells}
 use Rattle.circuit_types.specs.Nets.{Link, port_link, is_port, item_links, links, port_letters, lacks_port, is_module, is_unsupported, begins_with_backslash}
-use Rattle.circuit_types.specs.Reads.{Read, connect_reads, letters, cell_reads, is_output, wire_reads, reads}
-use Rattle.circuit_types.specs.Signals.{Shape, shape, signal_bits}
+use Rattle.circuit_types.specs.Reads.{Read, connect_reads, letters, cell_reads}
+use Rattle.circuit_types.specs.Signals.{Shape, signal_bits}
 use Rattle.circuit_types.specs.declared.nets.NetWire.{NetWire}
 use Rattle.circuit_types.specs.declared.nets.SignalBit.{SignalBit}
-use Rattle.circuit_types.specs.declared.nets.SignalBit.TheVariants.{Net, Unknown}
+use Rattle.circuit_types.specs.declared.nets.SignalBit.TheVariants.{Net}
 use Rattle.circuit_types.specs.declared.nets.Source.{Source}
 use Rattle.circuit_types.specs.declared.nets.Source.TheVariants as source
-use Rattle.circuit_types.specs.declared.signal.Signal.{Signal}
 use Rattle.circuit_types.specs.declared.tree.Cell.{Cell}
 use Rattle.circuit_types.specs.declared.tree.Item.{Item}
 use Rattle.circuit_types.specs.declared.tree.Item.TheVariants as item
-use Rattle.circuit_types.specs.declared.tree.PortConnect.{PortConnect}
-use Rattle.net_build.proofs.EachLemmas.{any_cases, any_none, any_first, any_later}
+use Rattle.net_build.proofs.EachLemmas.{any_first, any_later}
 use Rattle.gadget_maker.specs.Gadget.{connect_on}
 use Rattle.gadget_maker.proofs.Each.{Each, each-append, each_weaker}
-use Rattle.accepted_gadget.proofs.Spots.{Spot, clock, at_port, inside, is_spot, is_given, signal_of, Step, gate, register, output, outputs, index, IsRead, IsDriven, IsStep, AreSteps, driven_of}
+use Rattle.accepted_gadget.proofs.Spots.{Spot, clock, is_spot, is_given, signal_of, Step, gate, register, output, outputs, index, IsDriven, IsStep, AreSteps, driven_of}
 use Rattle.accepted_gadget.proofs.Cells.{GateName, conjunction, difference, sameness, gate_text, Dress, cell_of, IsCellOf, Holds, none, wire, cell}
-use Rattle.accepted_gadget.proofs.Wires.{In, bit, good, IsBit, AreSpotWires, apart, given_bit, spot_bit}
+use Rattle.accepted_gadget.proofs.Wires.{In, bit, good, AreSpotWires, apart, given_bit, spot_bit}
 
 -- ---- kinds
 

@@ -1,27 +1,21 @@
 -- The cells of a gadget with what they read, and that all of them are levelled and settled.
-use Rattle.std.proofs.Common.{◌≡◌, ℕ, zero, suc, ◌+◌, ◌<◌, ◌≤◌, ◌==◌, ◌⊎◌, inl, inr, ⊎_elim, cond, ◌&&◌, Bool, true, false, not, List, [], ◌∷◌, ◌++◌, length, map, get_or, Option, Some, None, codes, refl, sym, ap, subst, ◌∙◌, arith}
+use Rattle.std.proofs.Common.{◌≡◌, ℕ, zero, suc, ◌+◌, ◌<◌, ◌==◌, ⊎_elim, ◌&&◌, Bool, true, false, not, List, [], ◌∷◌, ◌++◌, length, map, get_or, Some, refl, sym, ap, subst, ◌∙◌, arith}
 use Rattle.std.specs.List.{flat_map, list_all, position}
 use Rattle.std.specs.Option.{option_map_or}
 use Rattle.std.proofs.lemmas.Bool.{cases_Bool, cond-true, cond-false, both_ways}
-use Rattle.cell_kinds.specs.Cells.{input_letters}
 use Rattle.cell_kinds.specs.declared.kind.CellKind.{CellKind}
 use Rattle.cell_kinds.specs.declared.kind.CellKind.TheVariants.{Gate, Flop}
 use Rattle.circuit_types.specs.Causes.{AtCell, level_causes}
-use Rattle.circuit_types.specs.DataSources.{cell_at, pin_sources, port_source, data_source, by_kind, settled_sources, gate_sources}
-use Rattle.circuit_types.specs.Drives.{drives, connect_of, output_connect, EndsAt}
+use Rattle.circuit_types.specs.DataSources.{cell_at, settled_sources}
+use Rattle.circuit_types.specs.Drives.{drives, output_connect, EndsAt}
 use Rattle.circuit_types.specs.Due.{IsClear}
 use Rattle.circuit_types.specs.Held.{held_value, has_open_reset, has_open_enable}
 use Rattle.circuit_types.specs.Items.{net_wires, bit_count, kept_cells}
 use Rattle.circuit_types.specs.Nets.{net_cell, net_cell_of, pin_of, output_net, end_in, AreNets}
-use Rattle.circuit_types.specs.Order.{has, is_ready, order_of, order, is_levelled, is_settled, AllSettled, AllLevelled}
-use Rattle.circuit_types.specs.Reads.{cell_reads}
-use Rattle.circuit_types.specs.Signals.{signal_bits}
+use Rattle.circuit_types.specs.Order.{has, is_ready, order, is_levelled, is_settled, AllSettled, AllLevelled}
 use Rattle.circuit_types.specs.declared.circuit.Timing.TheVariants.{Settled}
 use Rattle.circuit_types.specs.declared.nets.NetCell.{NetCell}
-use Rattle.circuit_types.specs.declared.nets.NetWire.{NetWire}
-use Rattle.circuit_types.specs.declared.nets.Nets.{Nets}
 use Rattle.circuit_types.specs.declared.nets.Pin.{Pin}
-use Rattle.circuit_types.specs.declared.nets.SignalBit.{SignalBit}
 use Rattle.circuit_types.specs.declared.nets.SignalBit.TheVariants.{Net}
 use Rattle.circuit_types.specs.declared.nets.Source.{Source}
 use Rattle.circuit_types.specs.declared.nets.Source.TheVariants as source
@@ -36,7 +30,7 @@ use Rattle.net_build.proofs.SourceLemmas.{AreOnce, ends_at_once, bit_ends}
 use Rattle.net_build.proofs.WithinLemmas.{EachWithin, each_within, wires_within, drives_within, bits_within}
 use Rattle.gadget_maker.proofs.Each.{Each}
 use Rattle.accepted_gadget.proofs.Spots.{Spot, clock, is_spot, is_given, signal_of, Step, gate, register, index, IsRead, IsStep, AreSteps}
-use Rattle.accepted_gadget.proofs.Cells.{GateName, Dress, cell_of, IsCellOf}
+use Rattle.accepted_gadget.proofs.Cells.{GateName, Dress, cell_of}
 use Rattle.accepted_gadget.proofs.Wires.{bit, spot_bit}
 use Rattle.accepted_gadget.proofs.Driving.{gate_kind, plain_flop, gate_named, flop_named, flop_letters, AreCells, step_reads, reads_are, spot_source}
 use Rattle.accepted_gadget.proofs.Building.{IsGadget, nets_of, are_nets, all_by_cells, all_cells, ends_at, once, no_lines}

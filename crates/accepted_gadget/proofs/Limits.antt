@@ -1,6 +1,6 @@
 -- The probes of a gadget, what they see, their tuples, and its terms are within the limits.
-use Rattle.std.proofs.Common.{◌≡◌, ℕ, zero, suc, ◌+◌, ◌-◌, ◌*◌, ◌<◌, ◌≤◌, ◌^◌, ◌&&◌, min, nat_le, nat_lt, cond, if◌then◌else◌, Bool, true, false, List, [], ◌∷◌, ◌++◌, length, length-append, map, filter, sum_by, refl, sym, ap, subst, ◌∙◌, arith}
-use Rattle.std.specs.List.{All, flat_map, range_with_len}
+use Rattle.std.proofs.Common.{◌≡◌, ℕ, zero, suc, ◌+◌, ◌-◌, ◌*◌, ◌≤◌, ◌&&◌, min, nat_le, if◌then◌else◌, Bool, true, List, [], ◌∷◌, ◌++◌, length, length-append, map, filter, refl, ap, arith}
+use Rattle.std.specs.List.{flat_map, range_with_len}
 use Rattle.std.proofs.lemmas.Bool.{cond_both, and_parts, leb-true}
 use Rattle.std.proofs.lemmas.List.{length-map}
 use Rattle.std.proofs.lemmas.List.Elements.{All-from_recursion}
@@ -14,7 +14,7 @@ use Rattle.cell_kinds.specs.declared.kind.GateKind.TheVariants.{Buf, Not, And, N
 use Rattle.circuit_types.specs.DataSources.{cell_at, by_kind, pin_sources}
 use Rattle.circuit_types.specs.InputBits.{is_probed}
 use Rattle.circuit_types.specs.Order.{order}
-use Rattle.circuit_types.specs.Probes.{probed_inputs, probed_sources, glitch_seen, seen_sources, probe_on, probe_list, seen_count, probe_causes, cycles}
+use Rattle.circuit_types.specs.Probes.{probed_inputs, probed_sources, glitch_seen, probe_on, probe_list, seen_count, probe_causes}
 use Rattle.circuit_types.specs.Stable.{has_source, stable_sources}
 use Rattle.circuit_types.specs.Due.{IsClear}
 use Rattle.circuit_types.specs.Worlds.{Leaf, secrets, secret_leaves, leaves_in, leaves_of, input_leaves, random_leaves, is_input_leaf, is_random_leaf, is_drawn}

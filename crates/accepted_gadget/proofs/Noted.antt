@@ -1,23 +1,9 @@
 -- What the notes of a gadget say, and that no refusal of notes is due.
-use Rattle.std.proofs.Common.{◌≡◌, ℕ, zero, suc, ◌+◌, ◌<◌, ◌≤◌, ◌==◌, ◌&&◌, ◌⊎◌, inl, inr, ⊎_elim, max, nat_le, cond, Bool, true, false, not, List, [], ◌∷◌, ◌++◌, length, map, drop, filter, get_or, Some, codes, refl, sym, ap, subst, ◌∙◌, arith}
-use Rattle.std.specs.Prelude.{fold, Contains}
-use Rattle.std.specs.List.{flat_map, list_any, zip, range_with_len}
-use Rattle.std.proofs.lemmas.Bool.{cases_Bool, cond-true, cond-false, cond_both, le-leb, eqb-true, both_ways}
-use Rattle.std.proofs.lemmas.Grind.{flat_map-append}
-use Rattle.cell_kinds.specs.Cells.{input_letters}
-use Rattle.cell_kinds.specs.declared.kind.CellKind.TheVariants.{Gate, Flop}
-use Rattle.circuit_types.specs.Drives.{is_input}
-use Rattle.circuit_types.specs.Due.{Never, IsClear, Cause, at_lines}
-use Rattle.circuit_types.specs.Items.{wires, net_wires}
-use Rattle.circuit_types.specs.Nets.{end_in}
-use Rattle.circuit_types.specs.Reads.{is_output}
-use Rattle.circuit_types.specs.declared.nets.NetCell.{NetCell}
-use Rattle.circuit_types.specs.declared.nets.NetWire.{NetWire}
-use Rattle.circuit_types.specs.declared.nets.Nets.{Nets}
-use Rattle.circuit_types.specs.declared.nets.SignalBit.TheVariants.{Net}
-use Rattle.circuit_types.specs.declared.nets.Source.{Source}
-use Rattle.circuit_types.specs.declared.nets.Source.TheVariants as source
-use Rattle.circuit_types.specs.declared.refusal.Refusal.TheVariants.{NoteForm, NoteMissing}
+use Rattle.std.proofs.Common.{◌≡◌, ℕ, ◌+◌, ◌≤◌, ◌==◌, max, nat_le, false, List, [], ◌∷◌, ◌++◌, length, map, filter, Some, codes, refl, ap, ◌∙◌, arith}
+use Rattle.std.specs.Prelude.{fold}
+use Rattle.std.specs.List.{flat_map, range_with_len}
+use Rattle.std.proofs.lemmas.Bool.{cond-true, cond-false, cond_both, le-leb}
+use Rattle.circuit_types.specs.Items.{wires}
 use Rattle.circuit_types.specs.declared.roles.InputRole.{InputRole}
 use Rattle.circuit_types.specs.declared.roles.Roles.{Roles}
 use Rattle.circuit_types.specs.declared.roles.Secret.{Secret}
@@ -28,30 +14,24 @@ use Rattle.circuit_types.specs.declared.tree.Port.TheVariants as port
 use Rattle.circuit_types.specs.declared.tree.Wire.{Wire}
 use Rattle.share_notes.specs.declared.direction.Direction.{Direction}
 use Rattle.share_notes.specs.declared.direction.Direction.TheVariants as direction
-use Rattle.share_notes.specs.declared.note.Note.{Note}
 use Rattle.share_notes.specs.declared.note.Note.TheVariants as kind
 use Rattle.share_notes.specs.declared.mark.Mark.{Mark}
 use Rattle.share_notes.specs.declared.mark.Mark.TheVariants.{Absent, Wrong, Noted}
 use Rattle.share_notes.specs.declared.mark.MarkedWire.{MarkedWire}
 use Rattle.share_notes.specs.declared.shares.NumberedShare.{NumberedShare}
-use Rattle.share_notes.specs.Causes.{is_wrong, is_absent, form_lines, missing_lines, gap_lines, double_lines, share_causes, role_causes}
-use Rattle.share_notes.specs.Clocks.{is_clock, clock_bits, further_clocks, is_clock_source, is_misread, misread_pins, ends_at_clock, misread_wires, misuses, clock_lines}
-use Rattle.share_notes.specs.Lines.{wire_lines}
+use Rattle.share_notes.specs.Causes.{gap_lines, double_lines}
 use Rattle.share_notes.specs.Marks.{masks, mark_by, mark_in, mark_of, marked_from, marked_wires}
-use Rattle.share_notes.specs.PortOrder.{port_number, numbers_end, numbered_wires, in_port_order}
+use Rattle.share_notes.specs.PortOrder.{port_number, numbered_wires, in_port_order}
 use Rattle.share_notes.specs.Reading.{note_named, plain_note, share_of, shares_of, name_of, index_of}
 use Rattle.share_notes.specs.Roles.{roles_of, roles_by, noted_roles, input_roles, output_share}
-use Rattle.share_notes.specs.Shares.{GivenBit, top_share, share_count, has_direction, wire_shares, given_by, given, distinct, secrets, place_of, numbered_share, numbered_shares, single_lines}
+use Rattle.share_notes.specs.Shares.{GivenBit, top_share, share_count, has_direction, wire_shares, given, distinct, secrets, place_of, numbered_share, numbered_shares}
 use Rattle.rtlil_print.specs.PrintedLines.{item_height, items_at}
 use Rattle.gadget_maker.specs.Gadget.{pairs, pair_count, crossings, masked_name, kept_name, sum_name, wire_on, note, inner_wire, product_wires, crossing_wires, sum_wires, inner_wires, product_cells, masking_cells, register_cells, sum_cells, all_cells, named_from, all_items}
 use Rattle.gadget_maker.specs.Listed.{placed}
-use Rattle.gadget_maker.proofs.Each.{Each, each-append, each_weaker}
+use Rattle.gadget_maker.proofs.Each.{Each, each-append}
 use Rattle.net_build.proofs.EachLemmas.{each_flat}
-use Rattle.accepted_gadget.proofs.Spots.{Spot, clock, at_port, is_spot, is_given, is_clock as is_clock_spot, Step, gate, register, index, IsRead, IsStep, for_each_shares}
-use Rattle.accepted_gadget.proofs.Wires.{bit, apart, first_of}
-use Rattle.accepted_gadget.proofs.Driving.{gate_kind, plain_flop, gate_letters, flop_letters, spot_source}
-use Rattle.accepted_gadget.proofs.Building.{IsGadget, nets_of, no_lines, none_pass}
-use Rattle.accepted_gadget.proofs.Levelled.{NetDress, StepAt, Along, src, end_of, net_cell_for, IsNetCell, net_cells}
+use Rattle.accepted_gadget.proofs.Spots.{for_each_shares}
+use Rattle.accepted_gadget.proofs.Building.{none_pass}
 
 -- ---- the notes
 

@@ -1,8 +1,7 @@
 -- The items of the gadget make a gadget.
-use Rattle.std.proofs.Common.{◌≡◌, ℕ, zero, suc, ◌+◌, ◌-◌, ◌*◌, ◌<◌, ◌≤◌, ◌==◌, ◌&&◌, ◌||◌, ◌⊎◌, inl, inr, ⊎_elim, if◌then◌else◌, cond, nat_lt, Bool, true, false, not, List, [], ◌∷◌, ◌++◌, length, codes, filter, get_or, Some, refl, sym, ap, subst, ◌∙◌, arith, ltb-true}
-use Rattle.std.specs.List.{flat_map, find, range_with_len}
-use Rattle.std.proofs.lemmas.Bool.{and_parts, and_from, or_cases, not-false, cond_both, cond-true, cond-false, lt-ltb, le-ltb, eqb-true, eqb-false, eq-eqb, not-true, ltb-false, cases_Bool, cases_eq, cases_lt}
-use Rattle.std.proofs.lemmas.Grind.{flat_map-append}
+use Rattle.std.proofs.Common.{◌≡◌, ℕ, zero, suc, ◌+◌, ◌-◌, ◌<◌, ◌≤◌, ◌==◌, ◌&&◌, ◌||◌, inl, inr, ⊎_elim, if◌then◌else◌, nat_lt, true, false, not, List, [], ◌∷◌, ◌++◌, length, codes, filter, get_or, refl, sym, ap, subst, ◌∙◌, arith, ltb-true}
+use Rattle.std.specs.List.{flat_map, range_with_len}
+use Rattle.std.proofs.lemmas.Bool.{and_parts, and_from, or_cases, not-false, cond_both, cond-true, cond-false, lt-ltb, le-ltb, eqb-true, eqb-false, eq-eqb, not-true, cases_Bool, cases_eq, cases_lt}
 use Rattle.circuit_types.specs.Drives.{is_input}
 use Rattle.circuit_types.specs.Items.{top_items, wires, net_wires, numbered, wire_named}
 use Rattle.circuit_types.specs.Reads.{is_output}
@@ -14,9 +13,8 @@ use Rattle.circuit_types.specs.declared.tree.Port.{Port}
 use Rattle.circuit_types.specs.declared.tree.Port.TheVariants as port
 use Rattle.rtlil_tree.specs.Names.{wire_name, wire_names}
 use Rattle.rtlil_print.specs.PrintedLines.{item_height, items_at}
-use Rattle.gadget_maker.specs.Gadget.{shares_below, pair, row_of_pairs, pairs, pair_count, pair_number, crossing, crossings_at, row_of_crossings, crossings, name_of, product_name, masked_name, kept_name, sum_name, steps_before, inner_wire, port_wire, ports, product_wires, crossing_wires, sum_wires, inner_wires, product_cells, masking_cells, register_cells, sum_cells, all_cells, named_from, all_items, gadget_module, gadget}
+use Rattle.gadget_maker.specs.Gadget.{shares_below, pair, row_of_pairs, pairs, pair_count, crossing, crossings_at, row_of_crossings, crossings, name_of, masked_name, kept_name, sum_name, steps_before, inner_wire, ports, product_wires, crossing_wires, sum_wires, inner_wires, product_cells, masking_cells, register_cells, sum_cells, all_cells, named_from, all_items, gadget_module, gadget}
 use Rattle.gadget_maker.specs.declared.pairs.Pair.{Pair}
-use Rattle.gadget_maker.specs.declared.pairs.Crossing.{Crossing}
 use Rattle.gadget_maker.specs.Listed.{placed}
 use Rattle.gadget_maker.proofs.Each.{Each, each-append}
 use Rattle.gadget_maker.proofs.Fitting.{few_items, few_randoms}
@@ -24,9 +22,9 @@ use Rattle.net_build.specs.Built.{IsAccepted}
 use Rattle.net_build.proofs.EachLemmas.{each_flat}
 use Rattle.gadget_maker.proofs.Numbering.{mirrored}
 use Rattle.gadget_maker.proofs.Names.{second_byte, third_byte}
-use Rattle.accepted_gadget.proofs.Spots.{Spot, clock, at_port, inside, port_width, has_inside, is_spot, is_given, spot_name, spot_width, Step, gate, register, output, outputs, sum_spot, product_steps, masking_steps, register_steps, sum_steps, steps, are_steps, steps_are, AreSteps, for_each_shares}
-use Rattle.accepted_gadget.proofs.Cells.{Holds, all_hold, placed_holds}
-use Rattle.accepted_gadget.proofs.Wires.{In, in_left, in_right, bit, Found, found_wire, one_wire, Fits, FitsItem, fits_placed, fits_numbered, names_placed, AreSpotWires}
+use Rattle.accepted_gadget.proofs.Spots.{Spot, clock, at_port, inside, port_width, has_inside, is_spot, is_given, spot_name, Step, gate, register, output, outputs, sum_spot, product_steps, masking_steps, register_steps, sum_steps, steps, are_steps, steps_are, for_each_shares}
+use Rattle.accepted_gadget.proofs.Cells.{all_hold, placed_holds}
+use Rattle.accepted_gadget.proofs.Wires.{In, in_left, in_right, bit, found_wire, one_wire, Fits, FitsItem, fits_placed, fits_numbered, names_placed}
 use Rattle.accepted_gadget.proofs.Building.{IsOutput, IsGadget, nets_of, accepted}
 
 -- ---- the order of the cells, for each number of shares

@@ -1,5 +1,5 @@
 -- The text of a gadget is short.
-use Rattle.std.proofs.Common.{◌≡◌, ℕ, zero, suc, ◌+◌, ◌-◌, ◌*◌, ◌/◌, ◌%◌, ◌^◌, ◌<◌, ◌≤◌, ◌==◌, ◌&&◌, nat_lt, nat_le, if◌then◌else◌, true, List, [], ◌∷◌, ◌++◌, length, length-append, codes, refl, sym, ap, subst, ◌∙◌, arith}
+use Rattle.std.proofs.Common.{◌≡◌, ℕ, suc, ◌+◌, ◌-◌, ◌*◌, ◌/◌, ◌%◌, ◌^◌, ◌<◌, ◌≤◌, ◌==◌, ◌&&◌, nat_lt, nat_le, if◌then◌else◌, true, List, [], ◌∷◌, ◌++◌, length, length-append, codes, refl, sym, ap, subst, ◌∙◌, arith}
 use Rattle.std.specs.Fmt.{decimal, digits}
 use Rattle.std.specs.List.{flat_map}
 use Rattle.std.proofs.lemmas.Bool.{cond_both, leb-true}
@@ -13,10 +13,9 @@ use Rattle.circuit_types.specs.declared.tree.Tree.{Tree}
 use Rattle.rtlil_lex.specs.Tokens.{most_bytes}
 use Rattle.rtlil_tree.specs.declared.keyword.Keyword.{Keyword}
 use Rattle.rtlil_tree.specs.declared.keyword.Keyword.TheVariants as word
-use Rattle.rtlil_tree.specs.Lexemes.{Lexeme, id, spelling}
-use Rattle.rtlil_tree.specs.Statements.{Piece, lexeme, places, pieces_of}
-use Rattle.rtlil_print.specs.Printed.{piece_text, places_text, places_between, spaced, lexemes_spaced, line, inside_indent, cell_line, inside_lines, port_connect_line, end_line, item_indent, module_indent, item_lines, module_line, attribute_lines, printed}
-use Rattle.rtlil_print.specs.PrintedLines.{with_printed_lines}
+use Rattle.rtlil_tree.specs.Lexemes.{id, spelling}
+use Rattle.rtlil_tree.specs.Statements.{lexeme, pieces_of}
+use Rattle.rtlil_print.specs.Printed.{places_text, places_between, spaced, lexemes_spaced, line, inside_indent, cell_line, inside_lines, port_connect_line, end_line, item_indent, module_indent, item_lines, module_line, attribute_lines, printed}
 use Rattle.rtlil_print.proofs.SameText.{same_text}
 use Rattle.gadget_maker.specs.Gadget.{pairs, pair_count, crossings, name_of, product_name, masked_name, kept_name, sum_name, cell_name, bit_of, random_bit, sum_after, steps_before, connect_on, cell_on, inner_wire, ports, product_wires, crossing_wires, sum_wires, inner_wires, gate, register, product_cells, masking_kind, masking_cells, register_cells, sum_cells, all_cells, named_from, all_items, top_mark, gadget_module, gadget}
 use Rattle.gadget_maker.specs.declared.pairs.Pair.{Pair}

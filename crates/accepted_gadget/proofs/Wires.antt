@@ -1,15 +1,14 @@
 -- The wires of a gadget, by the names of spots: what is found under a name, and that bits are apart.
-use Rattle.std.proofs.Common.{◌≡◌, ℕ, zero, suc, ◌+◌, ◌-◌, ◌<◌, ◌≤◌, ◌^◌, ◌==◌, ◌&&◌, ◌||◌, ◌⊎◌, inl, inr, ⊎_elim, if◌then◌else◌, cond, nat_lt, nat_le, Bool, true, false, not, List, [], ◌∷◌, ◌++◌, length, map, take, drop, Option, Some, None, codes, is_some, refl, sym, ap, subst, ◌∙◌, arith, ltb-true}
+use Rattle.std.proofs.Common.{◌≡◌, ℕ, zero, suc, ◌+◌, ◌-◌, ◌<◌, ◌≤◌, ◌==◌, ◌&&◌, ◌||◌, ◌⊎◌, inl, inr, ⊎_elim, if◌then◌else◌, nat_lt, nat_le, Bool, true, false, List, [], ◌∷◌, ◌++◌, length, map, take, drop, Option, Some, None, codes, is_some, refl, sym, ap, subst, ◌∙◌, arith, ltb-true}
 use Rattle.std.specs.List.{find, list_any}
 use Rattle.std.specs.Str.{bytes_eq}
-use Rattle.std.proofs.lemmas.Bool.{and_parts, and_from, or_left, or_right, cases_Bool, cond-true, cond-false, cond_both, leb-true, le-leb, lt-ltb, eqb-true, both_ways, true≢false, ltb-false}
+use Rattle.std.proofs.lemmas.Bool.{and_parts, and_from, or_left, or_right, cases_Bool, cond-true, cond-false, cond_both, leb-true, le-leb, lt-ltb, eqb-true, both_ways}
 use Rattle.std.proofs.lemmas.Slice.Eq.{bytes_eq-Decides}
 use Rattle.circuit_types.specs.Bits.{numbers}
 use Rattle.circuit_types.specs.Drives.{is_input, is_input_bit}
 use Rattle.circuit_types.specs.Items.{wires, numbered, wire_named}
 use Rattle.circuit_types.specs.Signals.{Shape, shape, signal_bits, wire_bits, wire_width, slice_width, most_width}
 use Rattle.circuit_types.specs.declared.nets.NetWire.{NetWire}
-use Rattle.circuit_types.specs.declared.nets.SignalBit.{SignalBit}
 use Rattle.circuit_types.specs.declared.nets.SignalBit.TheVariants.{Net}
 use Rattle.circuit_types.specs.declared.signal.Signal.{Signal}
 use Rattle.circuit_types.specs.declared.signal.Signal.TheVariants as signal
