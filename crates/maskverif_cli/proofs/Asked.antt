@@ -1,5 +1,5 @@
 -- What words that ask for something say of it.
-use Rattle.std.proofs.Common.{◌≡◌, ◌≤◌, ℕ, List, [], ◌∷◌, true, false, arith}
+use Rattle.std.proofs.Common.{◌≡◌, ◌≤◌, ◌<◌, ◌^◌, ℕ, List, [], ◌∷◌, true, false, arith}
 use Rattle.std.specs.declared.string.String.{String}
 use Rattle.std.specs.declared.alloc.Global.{Global}
 use Rattle.command_words.specs.declared.command.Gadget.{Gadget}
@@ -68,6 +68,16 @@ made-shares words asked h = made-means words asked h.means
 
 pub tried-shares : (words : List (List ℕ)) (asked : Gadget) → Asks words (trial asked) → HasShares asked
 tried-shares words asked h = tried-means words asked h.means
+
+-- its seed has 64 bits
+seed-means : (words : List (List ℕ)) (asked : Gadget) → Means words (trial asked) → asked.seed < 2 ^ 64
+seed-means [] asked h = absurd h
+seed-means (name ∷ behind) asked h =
+    let found : IsGadget behind asked = h.1 in
+    omega (arith, found.asks.seed_is.at_most)
+
+pub tried-seed : (words : List (List ℕ)) (asked : Gadget) → Asks words (trial asked) → asked.seed < 2 ^ 64
+tried-seed words asked h = seed-means words asked h.means
 
 -- certificates are not checked yet
 pub not-checked : (words : List (List ℕ)) (asked : CheckRequest) → Asks words (check asked) → ⊥

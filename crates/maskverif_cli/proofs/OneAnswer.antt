@@ -1,20 +1,25 @@
 -- At most one answer is due.
-use Rattle.std.proofs.Common.{◌≡◌, ◌⊎◌, ℕ, ◌<◌, List, length, map, true, Option, Some, None, refl, sym, ap, ◌∙◌, subst, arith, ⊎_elim, inl, inr}
+use Rattle.std.proofs.Common.{◌≡◌, ◌⊎◌, ℕ, ◌<◌, ◌≤◌, ◌-◌, ◌^◌, min, List, length, map, true, Option, Some, None, refl, sym, ap, ◌∙◌, subst, arith, ⊎_elim, inl, inr}
 use Rattle.std.proofs.lemmas.Bool.{cases_lt}
 use Rattle.std.specs.declared.string.String.{String}
 use Rattle.std.specs.declared.alloc.Global.{Global}
 use Rattle.std.specs.Option.{IfSome}
 use Rattle.mv_files.specs.Disk.{Disk, file_of, IsMissing}
 use Rattle.circuit_types.specs.declared.probes.Model.{Model}
+use Rattle.circuit_types.specs.declared.probes.Model.TheVariants.{Glitch}
 use Rattle.circuit_types.specs.declared.refusal.Refusal.{Refusal}
 use Rattle.expr_table.specs.declared.instance.Instance.{Instance}
 use Rattle.expr_table.specs.declared.instance.Notion.{Notion}
+use Rattle.expr_table.specs.declared.instance.Notion.TheVariants.{Probing}
+use Rattle.rtlil_print.specs.Printed.{printed}
+use Rattle.gadget_maker.specs.Gadget.{gadget}
+use Rattle.command_words.specs.declared.command.Gadget.{Gadget}
 use Rattle.command_words.specs.declared.command.Question.{Question}
 use Rattle.command_words.specs.Commands.{Request, VerifyRequest, Asks, verify, check, generate, trial}
 use Rattle.command_words.specs.Names.{texts}
 use Rattle.term_build.specs.Laws.{OneInstance}
 use Rattle.frontier_core.specs.Tree.{tree_of}
-use Rattle.accepted_netlist.specs.Netlist.{Netlist, probe_name, probes, circuit, roles}
+use Rattle.accepted_netlist.specs.Netlist.{Netlist, IsAcceptedAs, probe_name, probes, circuit, roles}
 use Rattle.accepted_netlist.specs.Laws.{OneNetlist, OneRefusal, AcceptedOrRefused}
 use Rattle.maskverif_cli.specs.declared.status.Status.{Status}
 use Rattle.maskverif_cli.specs.declared.status.Status.TheVariants.{Secure, Unproved, Made, Usage, Refused, NoFile, ReadFault, WriteFault, NoMemory}
@@ -22,7 +27,18 @@ use Rattle.maskverif_cli.specs.Report.{secure_report, unproved_report, refused_r
 use Rattle.maskverif_cli.specs.Verdict.{IsSecure, IsUnproved, IsProvableTuple, HasRank, Means, tuples_of}
 use Rattle.maskverif_cli.specs.Answer.{IsDue, IsVerdict, IsRefused, IsAcceptedFor, NotTaken, HasNoFile, HasVerdict, FindsAccepted, AskAboutAccepted, AskForGadget, is_decided, is_made, not_taken, no_file, netlist, made, tried, of_file, of_gadget}
 use Rattle.maskverif_cli.specs.Gadgets.{gadget_text, trial_question}
-use Rattle.maskverif_cli.proofs.Asked.{OneCommand, same-request}
+use Rattle.maskverif_cli.proofs.Asked.{OneCommand, same-request, tried-shares, tried-seed}
+
+-- the text of each gadget is accepted as it is tried
+abbrev pub GadgetsAccepted : Type 0
+GadgetsAccepted = (seed d : ℕ) → seed < 2 ^ 64 → 2 ≤ d → d ≤ 16 → (n : Netlist) × IsAcceptedAs Probing (min (d - 1) 2) Glitch (printed (gadget seed d)) n
+
+tried-accepted : GadgetsAccepted → (words : List (String Global)) (g : Gadget) → Asks (texts words) (trial g)
+    → (n : Netlist) × IsAcceptedFor (trial_question g.shares) (gadget_text g) n
+unfolding gadget_text
+tried-accepted accepts words g asks =
+    let has = tried-shares (texts words) g asks in
+    accepts g.seed g.shares (tried-seed (texts words) g asks) has.least has.most
 
 -- what is due to a request
 abbrev Due : Option Disk → Request → Status → List ℕ → Type 0
@@ -180,7 +196,8 @@ module _ (one_netlist : OneNetlist) (one_refusal : OneRefusal) (either : Accepte
         due
 
     -- an accepted netlist is decided, where nothing failed
-    pub decided : (disk : Option Disk) (s : Status) (a : List ℕ) → AskAboutAccepted words disk → IsDue words disk s a → is_decided s ≡ true
-    decided disk s a (of_file asked asks found) due = found-decides disk asked s a found (due-for one_command words disk (verify asked) s a asks due)
-    decided disk s a (of_gadget g asks n accepted) due =
-        verdict-decides (trial_question g.shares) (gadget_text g) n s a accepted (due-for one_command words disk (trial g) s a asks due)
+    pub decided : GadgetsAccepted → (disk : Option Disk) (s : Status) (a : List ℕ) → AskAboutAccepted words disk → IsDue words disk s a → is_decided s ≡ true
+    decided accepts disk s a (of_file asked asks found) due = found-decides disk asked s a found (due-for one_command words disk (verify asked) s a asks due)
+    decided accepts disk s a (of_gadget g asks) due =
+        let accepted = tried-accepted accepts words g asks in
+        verdict-decides (trial_question g.shares) (gadget_text g) accepted.0 s a accepted.1 (due-for one_command words disk (trial g) s a asks due)

@@ -100,11 +100,10 @@ pub record FindsAccepted (disk : Option Disk) (asked : VerifyRequest) : Type 0 w
   pub netlist : Netlist
   pub accepted : IsAcceptedFor asked.question bytes netlist
 
--- the words ask about a netlist that is accepted: one of a file, or a gadget's
+-- the words ask about a netlist that is accepted: one of a file, or a gadget's, which always is
 pub data AskAboutAccepted (words : List (String Global)) (disk : Option Disk) : Type 0 where
   of_file : (asked : VerifyRequest) → AskToVerify words asked → FindsAccepted disk asked → AskAboutAccepted words disk
-  of_gadget : (g : Gadget) → AskToTry words g → (n : Netlist) → IsAcceptedFor (trial_question g.shares) (gadget_text g) n
-      → AskAboutAccepted words disk
+  of_gadget : (g : Gadget) → AskToTry words g → AskAboutAccepted words disk
 
 -- the words ask for the text of a gadget
 pub record AskForGadget (words : List (String Global)) : Type 0 where

@@ -20,12 +20,14 @@ pub fn one_answer_is_due()
     command_words::one_command();
 }
 
-/// Where the words ask about a netlist that is accepted, a verdict on it is the only answer that is due.
+/// Where the words ask about a netlist that is accepted, a verdict on it is the only answer that is due. Each gadget is
+/// accepted.
 pub fn accepted_is_decided()
     ensures { (words : List (String Global)) (disk : Option Disk) (status : Status) (text : List ℕ)
         → AskAboutAccepted words disk → IsDue words disk status text → IsTrue (is_decided status) }
 {
     accepted_netlist::one_netlist_or_refusal();
+    accepted_gadget::gadgets_are_accepted();
     command_words::one_command();
 }
 

@@ -1,10 +1,11 @@
 //! The commands of the program, over files and a sink that are handed in.
 //!
-//! [`run_plain`] reads the words of a command and the bytes of the netlist that they name, makes the netlist's *instance*
-//! if it is accepted, and decides it: either each *tuple* of at most as many probes as the order is provable, or there is
-//! a first one that is not. A [`Status`] says how the command ended. An answer is *due* where the words and the files call
-//! for it: a verdict on the netlist, a refusal, a missing file, or how the program is called. Where no call failed, the
-//! answer is the one that is due, and the sink has taken its *report*.
+//! [`run_plain`] reads the words of a command. For `verify` it reads the bytes of the netlist that they name, makes the
+//! netlist's *instance* if it is accepted, and decides it: either each *tuple* of at most as many probes as the order is
+//! provable, or there is a first one that is not. For `generate` it makes the text of a gadget's netlist, and for `trial` it
+//! verifies that text. A [`Status`] says how the command ended. An answer is *due* where the words and the files call for it:
+//! a verdict on the netlist, a refusal, a missing file, the text of a gadget, or how the program is called. Where no call
+//! failed, the answer is the one that is due, and the sink has taken its *report*.
 #![tactic(auto)]
 
 mod gadgets;

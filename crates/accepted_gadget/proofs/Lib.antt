@@ -1,0 +1,12 @@
+pub mod Spots
+pub mod Cells
+pub mod Wires
+pub mod Driving
+pub mod Building
+pub mod Shaped
+pub mod Levelled
+pub mod Noted
+pub mod Clocked
+pub mod Limits
+pub mod Texts
+pub mod Accepting
