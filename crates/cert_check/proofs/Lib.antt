@@ -1,0 +1,11 @@
+pub mod Questions
+pub mod Chains
+pub mod Hulls
+pub mod RightLines
+pub mod TakenLines
+pub mod Outcomes
+pub mod Proving
+pub mod Accepted
+pub mod Certified
+pub mod Checks
+pub mod Trees
