@@ -8,9 +8,9 @@ use Rattle.command_words.specs.declared.command.Gadget.{Gadget}
 use Rattle.command_words.specs.Numbers.{IsNumber}
 use Rattle.command_words.specs.Parts.{Part, Found, ArePlain, IsPlain, IsWithin, found_in, written}
 use Rattle.command_words.specs.Reading.{HasRead}
-use Rattle.command_words.specs.Commands.{VerifyRequest, CheckRequest, Request, Means, is_served, Asks, IsWorkers, IsSchedule, AsksVerify, IsVerify, AsksCheck, IsCheck, AsksGadget, IsGadget}
+use Rattle.command_words.specs.Commands.{VerifyRequest, CheckRequest, Request, Means, IsWorkers, IsSchedule, AsksVerify, IsVerify, AsksCheck, IsCheck, AsksGadget, IsGadget}
 use Rattle.command_words.proofs.Written.{same-head, one-reading, at-end}
-use Rattle.command_words.proofs.One.{moved, same-four, same-fifth, one-request}
+use Rattle.command_words.proofs.One.{moved, same-four, same-fifth}
 
 pub if-some : {T : Type 0} (o : Option T) (P Q : T → Type 0) → ((x : T) → P x → Q x) → IfSome o P → IfSome o Q
 if-some None P Q f h = tt
@@ -115,12 +115,6 @@ two (v ∷ []) a b lo hi p q = absurd (omega arith)
 two (v ∷ w ∷ []) a b lo hi p q = cc
 two (v ∷ w ∷ x ∷ more) a b lo hi p q = absurd (omega arith)
 
--- names, and what the program serves
+-- names
 pub named : (name word : List ℕ) → true ≡ pointwise eqb name word → name ≡ word
 named name word e = (bytes_eq-Decides name word).0 (sym e)
-
-pub not-served : (words : List (List ℕ)) (meant : Request) (served : Bool) → Means words meant → served ≡ is_served meant → served ≡ false → (request : Request) → Asks words request → ⊥
-not-served words meant served means is none request asks =
-    let same : request ≡ meant = one-request words request meant asks.means means in
-    let wrong : true ≡ false = sym asks.served ∙ ap is_served same ∙ sym is ∙ none in
-    cc

@@ -1,5 +1,5 @@
 -- What words ask.
-use Rattle.std.specs.Prelude.{ℕ, ◌≡◌, ◌≢◌, ◌-◌, ◌^◌, List, [], ◌∷◌, codes, Option, Some, None, is_some, Bool, true, false, not, IsTrue}
+use Rattle.std.specs.Prelude.{ℕ, ◌≡◌, ◌≢◌, ◌-◌, ◌^◌, List, [], ◌∷◌, codes, Option, Some, None}
 use Rattle.std.specs.Option.{option_copied, option_to_list}
 use Rattle.command_words.specs.declared.command.Question.{Question}
 use Rattle.command_words.specs.declared.command.Verification.{Verification}
@@ -133,15 +133,3 @@ AsksFor behind (trial g) = IsGadget behind g
 abbrev pub Means : List (List ℕ) → Request → Type 0
 Means [] request = ⊥
 Means (name ∷ behind) request = (name ≡ command_word request) × AsksFor behind request
-
--- Certificates are neither written nor checked yet.
-abbrev pub is_served : Request → Bool
-is_served (verify v) = not (is_some v.certificate)
-is_served (check c) = false
-is_served (generate g) = true
-is_served (trial g) = true
-
--- What the words ask of the program: the request that they mean, if it is served.
-pub record Asks (words : List (List ℕ)) (request : Request) : Type 0 where
-  pub means : Means words request
-  pub served : IsTrue (is_served request)

@@ -4,8 +4,7 @@
 //! stand by their places, and *options*, which stand anywhere among them, each with its *value*, as `--workers 2` or as
 //! `--workers=2` (the terms are those of POSIX, "Utility Conventions"). The other commands have operands alone.
 //! [`read_words`] gives the [`Command`] that a list of words asks of the program, and nothing for any other list. It
-//! takes no memory. Words mean at most one command: [`one_command`]. Certificates are neither written nor checked yet:
-//! `check` and `--certificate` are read by the same rule, and are not served.
+//! takes no memory. Words mean at most one command: [`one_command`].
 #![tactic(auto)]
 
 mod command;

@@ -5,8 +5,8 @@ ghost use Rattle.command_words.specs.declared.command.Gadget.{Gadget as AnyGadge
 ghost use Rattle.command_words.specs.Names.{texts};
 ghost use Rattle.command_words.specs.Parts.{Part, ArePlain, IsWithin, found_in, written};
 ghost use Rattle.command_words.specs.Reading.{HasRead, found_of};
-ghost use Rattle.command_words.specs.Commands.{Asks, CheckRequest, IsCheck, IsGadget, IsVerify, Means, Request, VerifyRequest};
-ghost use Rattle.command_words.specs.Commands.{check_request, is_served, request_of, verify_request};
+ghost use Rattle.command_words.specs.Commands.{CheckRequest, IsCheck, IsGadget, IsVerify, Means, Request, VerifyRequest};
+ghost use Rattle.command_words.specs.Commands.{check_request, request_of, verify_request};
 
 use crate::command::{Checking, Command, Gadget, Verification};
 use crate::given::Given;
@@ -91,35 +91,12 @@ fn command_asked<'a>(name: &str, behind: &'a [String]) -> Option<Command<'a>>
     None
 }
 
-/// The command that the words mean.
-pub fn command_meant(words: &[String]) -> Option<Command<'_>>
+/// The command that the words mean, among which the program's own name is not. `None` where they mean none: that is a
+/// wrong use of the program.
+pub fn read_words(words: &[String]) -> Option<Command<'_>>
     ensures taken { IfSome result (λ command. Means (texts words.now) (request_of command)) }
     ensures other { IfNone result ((request : Request) → Means (texts words.now) request → ⊥) }
 {
     let (name, behind) = words.split_first()?;
     command_asked(name.as_str(), behind)
-}
-
-/// Whether the program serves a command: certificates are neither written nor checked yet.
-fn is_served(command: &Command<'_>) -> bool
-    ensures { result ≡ is_served (request_of command.now) }
-{
-    match command {
-        Command::Verify(asked) => asked.certificate.is_none(),
-        Command::Check(_) => false,
-        Command::Generate(_) | Command::Trial(_) => true,
-    }
-}
-
-/// The command that the words ask of the program, whose own name is not among them. `None` where they ask nothing that
-/// it serves: that is a wrong use of the program.
-pub fn read_words(words: &[String]) -> Option<Command<'_>>
-    ensures taken { IfSome result (λ command. Asks (texts words.now) (request_of command)) }
-    ensures other { IfNone result ((request : Request) → Asks (texts words.now) request → ⊥) }
-{
-    let command = command_meant(words)?;
-    if !is_served(&command) {
-        return None;
-    }
-    Some(command)
 }

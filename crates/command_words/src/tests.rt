@@ -2,12 +2,11 @@
 
 use crate::command::{Command, Question};
 use crate::names::{model_word, notion_word};
-use crate::read::{command_meant, read_words};
+use crate::read::read_words;
 use std::alloc::{AllocError, Global};
 use std::test::Fail;
 
 /// In each line words, cut at single spaces, so that an empty word stands between two; and what they mean, or `-`.
-/// What the program does not serve yet comes `later`.
 const TABLE: &str = r#"verify probing 1 value f => verify probing 1 value f 1 None None
 verify ni 2 glitch f => verify ni 2 glitch f 1 None None
 verify sni 8 value f => verify sni 8 value f 1 None None
@@ -69,12 +68,12 @@ verify probing 1 value f --workers two => -
 verify --workers probing 1 value f => -
 verify probing 1 value f --workers 00000000000000000002 => verify probing 1 value f 2 None None
 verify probing 1 value f --workers 000000000000000000002 => -
-verify probing 1 value f --certificate c => later: verify probing 1 value f 1 Some("c") None
-verify probing 1 value f --certificate=c => later: verify probing 1 value f 1 Some("c") None
+verify probing 1 value f --certificate c => verify probing 1 value f 1 Some("c") None
+verify probing 1 value f --certificate=c => verify probing 1 value f 1 Some("c") None
 verify probing 1 value f --certificate f => -
 verify probing 1 value f --certificate=f => -
-verify probing 1 value f --certificate ./f => later: verify probing 1 value f 1 Some("./f") None
-verify probing 1 value f --certificate==c => later: verify probing 1 value f 1 Some("=c") None
+verify probing 1 value f --certificate ./f => verify probing 1 value f 1 Some("./f") None
+verify probing 1 value f --certificate==c => verify probing 1 value f 1 Some("=c") None
 verify probing 1 value f --certificate= => -
 verify probing 1 value f --certificate -c => -
 verify probing 1 value f --certificate=-c => -
@@ -90,10 +89,10 @@ verify probing 1 value f --schedule 18446744073709551616 => -
 verify probing 1 value f --schedule 99999999999999999999 => -
 verify probing 1 value f --schedule -1 => -
 verify --schedule=5 probing 1 value f --schedule=5 => -
-verify probing 1 value f --schedule 5 --workers 2 --certificate c => later: verify probing 1 value f 2 Some("c") Some(5)
-verify --schedule 5 probing --workers=2 1 value --certificate=c f => later: verify probing 1 value f 2 Some("c") Some(5)
-check probing 1 value f c => later: check probing 1 value f c
-check sni 08 glitch f ./f => later: check sni 8 glitch f ./f
+verify probing 1 value f --schedule 5 --workers 2 --certificate c => verify probing 1 value f 2 Some("c") Some(5)
+verify --schedule 5 probing --workers=2 1 value --certificate=c f => verify probing 1 value f 2 Some("c") Some(5)
+check probing 1 value f c => check probing 1 value f c
+check sni 08 glitch f ./f => check sni 8 glitch f ./f
 check probing 1 value f f => -
 check probing 1 value f => -
 check probing 1 value f c d => -
@@ -157,14 +156,8 @@ fn text_of(alloc: Global, command: Command<'_>) -> Result<String, AllocError> {
 }
 
 fn meaning(alloc: Global, words: &[String]) -> Result<String, AllocError> {
-    if let Some(command) = read_words(words) {
-        return text_of(alloc, command);
-    }
-    match command_meant(words) {
-        Some(command) => {
-            let text = text_of(alloc, command)?;
-            format!(in alloc; "later: {text}")
-        }
+    match read_words(words) {
+        Some(command) => text_of(alloc, command),
         None => String::from_str(alloc, "-"),
     }
 }

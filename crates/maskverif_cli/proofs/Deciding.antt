@@ -20,7 +20,7 @@ use Rattle.accepted_netlist.specs.Known.{Keeps}
 use Rattle.accepted_netlist.specs.Netlist.{Netlist, roles, circuit, probes, IsInstanceOf, probe_name}
 use Rattle.maskverif_cli.specs.Kept.{name_of_probe}
 use Rattle.maskverif_cli.specs.Report.{secure_report, unproved_report}
-use Rattle.maskverif_cli.specs.Verdict.{IsProvableTuple, IsSecure, IsUnproved, HasRank, tuples_of}
+use Rattle.maskverif_cli.specs.Verdict.{AllProvable, IsProvableTuple, IsSecure, IsUnproved, HasRank, tuples_of}
 use Rattle.maskverif_cli.proofs.Finding.{IsFound, found, none-passes}
 
 -- a tuple is proved exactly where it is provable
@@ -65,10 +65,24 @@ module _ (x : Instance) (order : ℕ) (decides : Decides x) where
         sym (rank-at (length x.probes) order rank tuple has) ∙ rank-at (length x.probes) order here.place tuple here.there in
         from-proved other (here.before k other (subst (λ n. k < n) same lt) there)
 
+-- a list of a rank is a tuple
+pub ranked-tuple : (x : Instance) (order : ℕ) (tuple : List ℕ) (rank : ℕ) → TuplesAreAll → HasRank x order tuple rank → IsTuple (length x.probes) order tuple
+ranked-tuple x order tuple rank all has = (all (length x.probes) order tuple).1 (contains_at (tuples_of x order) rank tuple has)
+
 pub first-is-tuple : (x : Instance) (order : ℕ) (tuple : List ℕ) → TuplesAreAll → first_of x order ≡ Some tuple → IsTuple (length x.probes) order tuple
 first-is-tuple x order tuple all first =
     let here = found (λ t. not (is_proved x t)) (tuples_of x order) tuple first in
     (all (length x.probes) order tuple).1 (contains_at (tuples_of x order) here.place tuple here.there)
+
+module _ (notion : Notion) (order : ℕ) (model : Model) (bytes : List ℕ) (kept : Accepted) (keeps : Keeps notion order model bytes kept) where
+  -- each tuple is provable, so what it observes is as the notion asks
+  pub all-is : Simulates notion model keeps.netlist kept.instance → Hides model keeps.netlist kept.instance
+      → ((tuple : List ℕ) (rank : ℕ) → HasRank kept.instance order tuple rank → IsProvableTuple kept.instance tuple) → AllProvable notion order model keeps.netlist kept.instance
+  all-is simulates hides provable = record {
+    provable = provable;
+    simulatable = λ tuple rank has. simulates tuple (provable tuple rank has);
+    independent = λ is tuple rank has. hides-under notion model keeps.netlist kept.instance hides keeps.instance is tuple (provable tuple rank has);
+  }
 
 module _ (notion : Notion) (order : ℕ) (model : Model) (bytes : List ℕ) (kept : Accepted) (keeps : Keeps notion order model bytes kept) (decides : Decides kept.instance) where
   abbrev x : Instance
@@ -80,10 +94,7 @@ module _ (notion : Notion) (order : ℕ) (model : Model) (bytes : List ℕ) (kep
     netlist = keeps.netlist;
     instance = x;
     means = record { accepted = keeps.accepted; instance = keeps.instance };
-    all = all-provable x order decides none;
-    simulatable = λ tuple rank has. simulates tuple (all-provable x order decides none tuple rank has);
-    independent = λ is tuple rank has.
-        hides-under notion model keeps.netlist x hides keeps.instance is tuple (all-provable x order decides none tuple rank has);
+    all = all-is notion order model bytes kept keeps simulates hides (all-provable x order decides none);
     report = written ∙ ap (secure_report notion order model (length x.probes) (length (tuples_of x order))) counted;
   }
 

@@ -1,6 +1,9 @@
 pub mod Asked
 pub mod Finding
-pub mod Due
 pub mod Deciding
-pub mod Ending
+pub mod Checking
+pub mod Trees
+pub mod Before
+pub mod Replies
 pub mod OneAnswer
+pub mod Ending

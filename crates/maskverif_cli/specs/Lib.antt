@@ -2,6 +2,8 @@ pub mod Gadgets
 pub mod Status
 pub mod Report
 pub mod Verdict
+pub mod Certificates
 pub mod Answer
-pub mod Kept
 pub mod Run
+pub mod Reply
+pub mod Kept

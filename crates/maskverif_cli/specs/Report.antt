@@ -8,6 +8,8 @@ use Rattle.circuit_types.specs.declared.refusal.Refusal.TheVariants.{BadToken, B
 use Rattle.circuit_types.specs.declared.refusal.Which.{Which}
 use Rattle.circuit_types.specs.declared.refusal.Which.TheVariants as which
 use Rattle.expr_table.specs.declared.instance.Notion.{Notion}
+use Rattle.certificate.specs.declared.fault.Why.{Why}
+use Rattle.certificate.specs.declared.fault.Why.TheVariants.{Form, Header, Extra, Open, Count, Hull, Cuts, Bound}
 use Rattle.command_words.specs.Names.{notion_word, model_word}
 
 -- a text and a line feed
@@ -37,6 +39,25 @@ unproved_report notion order model probes tuples rank names =
     ++ counts_of notion order model probes tuples
     ++ line (codes "rank " ++ decimal rank)
     ++ probe_lines names
+
+-- the report on a certificate that is accepted, with the number of its families
+abbrev pub accepted_report : ℕ → List ℕ
+accepted_report families = line (codes "Accepted") ++ line (codes "families " ++ decimal families)
+
+-- what is wrong with a line of a certificate, by its name
+abbrev pub why_word : Why → List ℕ
+why_word Form = codes "Form"
+why_word Header = codes "Header"
+why_word Extra = codes "Extra"
+why_word Open = codes "Open"
+why_word Count = codes "Count"
+why_word Hull = codes "Hull"
+why_word Cuts = codes "Cuts"
+why_word Bound = codes "Bound"
+
+-- the report on a certificate that is not accepted: the first line with which something is wrong, and what that is
+abbrev pub rejected_report : ℕ → Why → List ℕ
+rejected_report number why = line (codes "Rejected line " ++ decimal number ++ codes " " ++ why_word why)
 
 -- what is too much, by its name
 abbrev pub limit_words : Which → List ℕ

@@ -1,12 +1,14 @@
 -- The exit status of each answer.
 use Rattle.std.specs.Prelude.{ℕ}
 use Rattle.maskverif_cli.specs.declared.status.Status.{Status}
-use Rattle.maskverif_cli.specs.declared.status.Status.TheVariants.{Secure, Unproved, Made, Usage, Refused, NoFile, ReadFault, WriteFault, NoMemory}
+use Rattle.maskverif_cli.specs.declared.status.Status.TheVariants.{Secure, Accepted, Unproved, Rejected, Made, Usage, Refused, NoFile, ReadFault, WriteFault, NoMemory}
 
 abbrev pub exit_code : Status → ℕ
 exit_code Secure = 0
-exit_code (Unproved tuple) = 1
+exit_code Accepted = 0
 exit_code Made = 0
+exit_code (Unproved tuple) = 1
+exit_code (Rejected line why) = 1
 exit_code Usage = 2
 exit_code (Refused why) = 3
 exit_code NoFile = 4

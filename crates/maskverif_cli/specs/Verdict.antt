@@ -30,21 +30,24 @@ pub record Means (notion : Notion) (order : ℕ) (model : Model) (bytes : List �
   pub accepted : IsAcceptedAs notion order model bytes n
   pub instance : IsInstanceOf notion model n x
 
--- Each tuple of at most as many probes as the order is provable, so what it observes is simulatable within its bound and,
--- under probing security, does not depend on the secrets. This is the report on it: with how many probes, tuples and
--- families of the proof tree there are.
+-- Each tuple of at most as many probes as the order is provable. So what it observes is simulatable within its bound and,
+-- under probing security, does not depend on the secrets.
+pub record AllProvable (notion : Notion) (order : ℕ) (model : Model) (n : Netlist) (x : Instance) : Type 0 where
+  pub provable : (tuple : List ℕ) (rank : ℕ) → HasRank x order tuple rank → IsProvableTuple x tuple
+  -- what each tuple observes is simulatable within its bound, from the leaves that its least chain leaves live
+  pub simulatable : (tuple : List ℕ) (rank : ℕ) → HasRank x order tuple rank
+      → IsSimulatableTuple notion model (roles n) (circuit n) tuple (leaves_left x (roots_of x tuple))
+      (tuple_bound notion (probes model n) tuple)
+  -- for probing security, what each tuple observes does not depend on the secrets
+  pub independent : notion ≡ Probing → (tuple : List ℕ) (rank : ℕ) → HasRank x order tuple rank
+      → IsIndependentTuple notion model (roles n) (circuit n) tuple
+
+-- Each tuple is provable, and this is the report on it: with how many probes, tuples and families of the proof tree there are.
 pub record IsSecure (notion : Notion) (order : ℕ) (model : Model) (bytes text : List ℕ) : Type 0 where
   pub netlist : Netlist
   pub instance : Instance
   pub means : Means notion order model bytes netlist instance
-  pub all : (tuple : List ℕ) (rank : ℕ) → HasRank instance order tuple rank → IsProvableTuple instance tuple
-  -- what each tuple observes is simulatable within its bound, from the leaves that its least chain leaves live
-  pub simulatable : (tuple : List ℕ) (rank : ℕ) → HasRank instance order tuple rank
-      → IsSimulatableTuple notion model (roles netlist) (circuit netlist) tuple (leaves_left instance (roots_of instance tuple))
-      (tuple_bound notion (probes model netlist) tuple)
-  -- for probing security, what each tuple observes does not depend on the secrets
-  pub independent : notion ≡ Probing → (tuple : List ℕ) (rank : ℕ) → HasRank instance order tuple rank
-      → IsIndependentTuple notion model (roles netlist) (circuit netlist) tuple
+  pub all : AllProvable notion order model netlist instance
   pub report : text
       ≡ secure_report notion order model (length instance.probes) (length (tuples_of instance order)) (length (tree_of instance order))
 

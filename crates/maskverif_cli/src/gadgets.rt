@@ -1,12 +1,13 @@
 //! The answers about gadgets that the program makes.
 
-ghost use Rattle.std.specs.Prelude.{◌≡◌, ◌≤◌, IfOk};
-ghost use Rattle.maskverif_cli.specs.declared.status.Status.TheVariants as status;
-ghost use Rattle.maskverif_cli.specs.Answer.{IsVerdict};
+ghost use Rattle.std.specs.Prelude.{◌≡◌, ◌≤◌, IfOk, None};
+ghost use Rattle.maskverif_cli.specs.Answer.{AnswersNetlist, IsMade};
 ghost use Rattle.maskverif_cli.specs.Gadgets.{gadget_text, trial_question};
+ghost use Rattle.maskverif_cli.specs.Reply.{CannotFail, Ends};
 
+use crate::reply::{Halt, Reply, refused};
 use crate::status::Status;
-use crate::verify::{Reply, Way, refused, verify};
+use crate::verify::{Way, verify};
 use circuit_types::{Model, Refusal, Which};
 use command_words::{Gadget, Question};
 use expr_table::Notion;
@@ -28,16 +29,16 @@ fn gadget_text(alloc: Global, asked: Gadget) -> Result<Vec<u8>, NoMemory>
 }
 
 /// The answer that is the text of a gadget.
-pub fn generate(alloc: Global, asked: Gadget) -> Result<Reply, NoMemory>
+pub fn generate(alloc: Global, asked: Gadget) -> Result<Reply, Halt>
     requires least { 2 ≤ asked.shares }
     requires most { asked.shares ≤ 16 }
-    ensures status { IfOk result (λ reply. reply.status ≡ status.Made) }
-    ensures text { IfOk result (λ reply. reply.text.items ≡ gadget_text asked) }
+    ensures { Ends (IsMade asked) None CannotFail result }
 {
     let text = gadget_text(alloc, asked)?;
     Ok(Reply {
         status: Status::Made,
         text,
+        certificate: None,
     })
 }
 
@@ -56,15 +57,14 @@ fn trial_question(shares: u32) -> Question
 }
 
 /// The answer to the text of a gadget, as to that of any netlist.
-pub fn trial(alloc: Global, asked: Gadget) -> Result<Reply, NoMemory>
+pub fn trial(alloc: Global, asked: Gadget) -> Result<Reply, Halt>
     requires least { 2 ≤ asked.shares }
     requires most { asked.shares ≤ 16 }
-    ensures { IfOk result (λ reply. IsVerdict (trial_question asked.shares) (gadget_text asked) reply.status
-        reply.text.items) }
+    ensures { Ends (AnswersNetlist (trial_question asked.shares) None (gadget_text asked)) None CannotFail result }
 {
     let text = gadget_text(alloc, asked)?;
     if text.len() > MOST_BYTES {
-        return refused(alloc, Refusal::Limit(Which::FileBytes));
+        return Err(refused(alloc, Refusal::Limit(Which::FileBytes)));
     }
     let one_thread = Way {
         workers: 1,
@@ -74,6 +74,7 @@ pub fn trial(alloc: Global, asked: Gadget) -> Result<Reply, NoMemory>
         alloc,
         trial_question(asked.shares),
         one_thread,
+        None,
         text.as_slice(),
     )
 }

@@ -2,8 +2,9 @@
 
 ghost use Rattle.std.specs.Prelude.{◌≡◌, ℕ, List, IfOk};
 ghost use Rattle.maskverif_cli.specs.Report.{counts_of, secure_report, probe_lines, unproved_report, refused_report, usage_text};
-ghost use Rattle.maskverif_cli.specs.Report.{limit_words, line_of, refusal_words};
+ghost use Rattle.maskverif_cli.specs.Report.{accepted_report, limit_words, line_of, refusal_words, rejected_report, why_word};
 
+use certificate::Why;
 use circuit_types::{Refusal, Which};
 use command_words::{Question, model_word, notion_word};
 use sequences::NoMemory;
@@ -167,4 +168,37 @@ pub fn unproved(
     text.extend_from_slice(line.as_bytes())?;
     text.extend_from_slice(lines)?;
     Ok(text)
+}
+
+/// The report on a certificate that is accepted, with the number of its families.
+pub fn accepted(alloc: Global, families: u64) -> Result<Vec<u8>, NoMemory>
+    ensures { IfOk result (λ text. text.items ≡ accepted_report families) }
+{
+    let text = format!(in alloc; "Accepted\nfamilies {families}\n")?;
+    Ok(text.into_bytes())
+}
+
+/// What is wrong with a line of a certificate.
+fn why_word(why: Why) -> &'static str
+    ensures { result.now ≡ why_word why }
+{
+    match why {
+        Why::Form => "Form",
+        Why::Header => "Header",
+        Why::Extra => "Extra",
+        Why::Open => "Open",
+        Why::Count => "Count",
+        Why::Hull => "Hull",
+        Why::Cuts => "Cuts",
+        Why::Bound => "Bound",
+    }
+}
+
+/// The report on a certificate that is not accepted.
+pub fn rejected(alloc: Global, line: u32, why: Why) -> Result<Vec<u8>, NoMemory>
+    ensures { IfOk result (λ text. text.items ≡ rejected_report line why) }
+{
+    let why = why_word(why);
+    let text = format!(in alloc; "Rejected line {line} {why}\n")?;
+    Ok(text.into_bytes())
 }

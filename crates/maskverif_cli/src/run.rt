@@ -1,27 +1,48 @@
 //! The command over files and a sink.
 
-ghost use Rattle.std.specs.Prelude.{◌≡◌, ◌≤◌, ℕ, List, Some, IsTrue, MatchResult};
+ghost use Rattle.std.specs.Prelude.{◌≡◌, ◌≤◌, ◌⊎◌, ℕ, List, Some, IsTrue, OnErr, OnOk, MatchResult};
 ghost use Rattle.std.specs.declared.string.String.{String};
 ghost use Rattle.std.specs.declared.alloc.Global.{Global};
+ghost use Rattle.std.specs.Option.{option_copied};
 ghost use Rattle.mv_files.specs.Counts.{Rose};
 ghost use Rattle.mv_files.specs.Disk.{Disk};
+ghost use Rattle.mv_files.specs.Told.{WhereTold};
 ghost use Rattle.maskverif_cli.specs.declared.status.Status.{Status};
-ghost use Rattle.maskverif_cli.specs.declared.status.Status.TheVariants as status;
-ghost use Rattle.command_words.specs.Commands.{verify_request};
-ghost use Rattle.maskverif_cli.specs.Answer.{is_answer, is_decided, is_made, AskAboutAccepted, AskForGadget, AskToVerify, IsDue};
-ghost use Rattle.maskverif_cli.specs.Run.{Outside, Finishes, Stays, Runs};
+ghost use Rattle.maskverif_cli.specs.Answer.{AskAboutAccepted, AskForGadget, IsDue, NewFile, is_answer, is_decided, is_made};
+ghost use Rattle.maskverif_cli.specs.Run.{Runs, Stores};
+ghost use Rattle.maskverif_cli.specs.Reply.{Breaks, Concludes, Delivers, Finishes, new_file, outside};
 
+use crate::files::{check_files, verify_file};
 use crate::gadgets::{generate, trial};
 use crate::laws::{accepted_is_decided, gadget_is_made, one_answer_is_due};
+use crate::reply::{Halt, Reply};
 use crate::report;
 use crate::status::Status;
-use crate::verify::{Reply, Way, refused, verify};
-use circuit_types::{Refusal, Which};
-use command_words::{Command, Verification, one_command, read_words};
-use mv_files::{Files, ReadStop, Sink, read_whole, send_whole};
-use rtlil_lex::MOST_BYTES;
-use sequences::NoMemory;
+use command_words::{Command, one_command, read_words};
+use mv_files::{Files, Sink, WriteFault, send_whole, write_whole};
 use std::alloc::Global;
+
+/// Writes the certificate to the file of this name, where both are there.
+fn keep<F: Files>(
+    files: &mut F,
+    name: Option<&str>,
+    certificate: &Option<Vec<u8>>,
+) -> Result<(), WriteFault>
+    ensures stored { OnOk result (WhereTold (Stores (new_file (option_copied name.entry) certificate.now))
+        (F.disk files.old) (F.disk files.new)) }
+    ensures breaks { OnErr result (Breaks (new_file (option_copied name.entry) certificate.now)
+        (F.disk files.old) (F.disk files.new) (F.write_faults files.old) (F.write_faults files.new)) }
+    ensures writes { OnOk result (F.write_faults files.new ≡ F.write_faults files.old) }
+    ensures reads { F.read_faults files.new ≡ F.read_faults files.old }
+{
+    let Some(name) = name else {
+        return Ok(());
+    };
+    let Some(certificate) = certificate else {
+        return Ok(());
+    };
+    write_whole(files, name, certificate.as_slice())
+}
 
 /// Sends the text that is due with a status.
 fn finish<O: Sink>(out: &mut O, text: &[u8], status: Status) -> Status
@@ -34,60 +55,47 @@ fn finish<O: Sink>(out: &mut O, text: &[u8], status: Status) -> Status
     }
 }
 
-/// Sends the text of a reply, if there was memory for it.
-fn send<O: Sink>(out: &mut O, reply: Result<Reply, NoMemory>) -> Status
-    ensures { MatchResult reply
-        (λ r. Finishes r.text.items r.status (O.written out.old) (O.written out.new)
-        (O.faults out.old) (O.faults out.new) result)
-        (λ e. (result ≡ status.NoMemory)
-        × Stays (O.written out.old) (O.written out.new) (O.faults out.old) (O.faults out.new)) }
+/// Writes the file that is due, and then the text.
+fn deliver<F: Files, O: Sink>(
+    files: &mut F,
+    out: &mut O,
+    name: Option<&str>,
+    reply: Reply,
+) -> Status
+    ensures { Delivers reply.status reply.text.items (new_file (option_copied name.entry) reply.certificate)
+        (outside (F.disk files.old) (O.written out.old) (F.read_faults files.old) (F.write_faults files.old) (O.faults out.old))
+        (outside (F.disk files.new) (O.written out.new) (F.read_faults files.new) (F.write_faults files.new) (O.faults out.new))
+        result }
 {
-    match reply {
-        Ok(Reply { status, text }) => finish(out, text.as_slice(), status),
-        Err(_) => Status::NoMemory,
+    let Reply {
+        status,
+        text,
+        certificate,
+    } = reply;
+    match keep(files, name, &certificate) {
+        Ok(()) => finish(out, text.as_slice(), status),
+        Err(_) => Status::WriteFault,
     }
 }
 
-/// Verifies the netlist of a file.
-fn run_verify<F: Files, O: Sink>(
-    alloc: Global,
-    asked: Verification<'_>,
+/// Writes what is due, if something is.
+fn conclude<F: Files, O: Sink>(
     files: &mut F,
     out: &mut O,
+    name: Option<&str>,
+    end: Result<Reply, Halt>,
 ) -> Status
-    requires least { 1 ≤ asked.question.order }
-    requires most { asked.question.order ≤ 8 }
-    requires crew { 1 ≤ asked.workers }
-    ensures { (words : List (String Global)) → AskToVerify words (verify_request asked.entry) → Runs words
-        (record {
-          disk = F.disk files.old;
-          written = O.written out.old;
-          read_faults = F.read_faults files.old;
-          write_faults = F.write_faults files.old;
-          sink_faults = O.faults out.old;
-        })
-        (record {
-          disk = F.disk files.new;
-          written = O.written out.new;
-          read_faults = F.read_faults files.new;
-          write_faults = F.write_faults files.new;
-          sink_faults = O.faults out.new;
-        }) result }
+    ensures { Concludes (option_copied name.entry) end
+        (outside (F.disk files.old) (O.written out.old) (F.read_faults files.old) (F.write_faults files.old) (O.faults out.old))
+        (outside (F.disk files.new) (O.written out.new) (F.read_faults files.new) (F.write_faults files.new) (O.faults out.new))
+        result }
 {
-    let bytes = match read_whole(alloc, files, asked.netlist, MOST_BYTES as u64) {
-        Ok(bytes) => bytes,
-        Err(ReadStop::Missing) => return Status::NoFile,
-        Err(ReadStop::ReadFault) => return Status::ReadFault,
-        Err(ReadStop::NoMemory) => return Status::NoMemory,
-        Err(ReadStop::TooLong) => {
-            return send(out, refused(alloc, Refusal::Limit(Which::FileBytes)));
-        }
-    };
-    let way = Way {
-        workers: asked.workers,
-        schedule: asked.schedule,
-    };
-    send(out, verify(alloc, asked.question, way, bytes.as_slice()))
+    match end {
+        Ok(reply) => deliver(files, out, name, reply),
+        Err(Halt::Due(reply)) => deliver(files, out, name, reply),
+        Err(Halt::ReadFault) => Status::ReadFault,
+        Err(Halt::NoMemory) => Status::NoMemory,
+    }
 }
 
 /// Runs the command that the words are.
@@ -98,36 +106,36 @@ fn run_command<F: Files, O: Sink>(
     out: &mut O,
 ) -> Status
     ensures { Runs words.now
-        (record {
-          disk = F.disk files.old;
-          written = O.written out.old;
-          read_faults = F.read_faults files.old;
-          write_faults = F.write_faults files.old;
-          sink_faults = O.faults out.old;
-        })
-        (record {
-          disk = F.disk files.new;
-          written = O.written out.new;
-          read_faults = F.read_faults files.new;
-          write_faults = F.write_faults files.new;
-          sink_faults = O.faults out.new;
-        }) result }
+        (outside (F.disk files.old) (O.written out.old) (F.read_faults files.old) (F.write_faults files.old) (O.faults out.old))
+        (outside (F.disk files.new) (O.written out.new) (F.read_faults files.new) (F.write_faults files.new) (O.faults out.new))
+        result }
 {
     let Some(command) = read_words(words) else {
         return finish(out, report::usage(), Status::Usage);
     };
     match command {
-        Command::Verify(asked) => run_verify(alloc, asked, files, out),
-        Command::Generate(asked) => send(out, generate(alloc, asked)),
-        Command::Trial(asked) => send(out, trial(alloc, asked)),
-        // It is not served yet.
-        Command::Check(_) => unreachable!(),
+        Command::Verify(asked) => {
+            let end = verify_file(alloc, asked, files);
+            conclude(files, out, asked.certificate, end)
+        }
+        Command::Check(asked) => {
+            let end = check_files(alloc, asked, files);
+            conclude(files, out, None, end)
+        }
+        Command::Generate(asked) => {
+            let end = generate(alloc, asked);
+            conclude(files, out, None, end)
+        }
+        Command::Trial(asked) => {
+            let end = trial(alloc, asked);
+            conclude(files, out, None, end)
+        }
     }
 }
 
 /// Runs the command that the words are over these files, and writes its report to the sink: `verify NOTION ORDER MODEL
-/// NETLIST [--workers N] [--schedule SEED]`, `generate SEED SHARES` or `trial SEED SHARES`. It waits for nobody and always
-/// returns.
+/// NETLIST [--workers N] [--certificate OUT] [--schedule SEED]`, `check NOTION ORDER MODEL NETLIST CERTIFICATE`,
+/// `generate SEED SHARES` or `trial SEED SHARES`. It waits for nobody and always returns.
 pub fn run_plain<F: Files, O: Sink>(
     alloc: Global,
     words: &[String],
@@ -152,12 +160,13 @@ pub fn run_plain<F: Files, O: Sink>(
         }) result }
 
     // Where the files tell their bytes, no other answer is due: each comes exactly where it is due.
-    ensures only { (disk : Disk) (due : Status) (text : List ℕ) → F.disk files.old ≡ Some disk → IsTrue (is_answer result)
-        → IsDue words.now (Some disk) due text → result ≡ due }
+    ensures only { (disk : Disk) (due : Status) (text : List ℕ) (file : NewFile) → F.disk files.old ≡ Some disk
+        → IsTrue (is_answer result) → IsDue words.now (Some disk) due text file → result ≡ due }
 
-    // An accepted netlist is decided, unless a call failed or memory was refused.
+    // An accepted netlist is decided, and a certificate for one is checked, unless a call failed or memory was refused.
     ensures complete { AskAboutAccepted words.now (F.disk files.old)
         → ¬ Rose (F.read_faults files.old) (F.read_faults files.new)
+        → ¬ Rose (F.write_faults files.old) (F.write_faults files.new)
         → ¬ Rose (O.faults out.old) (O.faults out.new) → IsTrue (is_decided result) }
 
     // A gadget's text is made, unless a call failed or memory was refused.

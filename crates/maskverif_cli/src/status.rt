@@ -2,6 +2,7 @@
 
 ghost use Rattle.std.specs.Prelude.{◌≡◌};
 
+use certificate::Why;
 use circuit_types::Refusal;
 use tuple_rank::Tuple;
 
@@ -12,17 +13,21 @@ pub enum Status {
     Secure,
     /// The first tuple of probes that the rules do not prove, by size and then lexicographically.
     Unproved(Tuple),
+    /// The certificate proves that each tuple of probes is provable.
+    Accepted,
+    /// It does not: this is its first line with which something is wrong, and what that is.
+    Rejected { line: u32, why: Why },
     /// The gadget's netlist is made.
     Made,
     /// The words are no command.
     Usage,
-    /// The netlist is not accepted.
+    /// The netlist is not accepted, or a certificate is too long.
     Refused(Refusal),
-    /// There is no file of the netlist's name.
+    /// There is no netlist of the name, or no certificate.
     NoFile,
-    /// A call to the files failed while the netlist was read.
+    /// A call to the files failed while the netlist or the certificate was read.
     ReadFault,
-    /// A call to the sink failed while it took the report.
+    /// A call to the files failed while the certificate was written, or one to the sink while it took the report.
     WriteFault,
     /// Memory was refused. The sink and the files hold what they held.
     NoMemory,
@@ -36,8 +41,8 @@ impl Status {
         ensures { result ≡ exit_code self.now }
     {
         match self {
-            Status::Secure | Status::Made => 0,
-            Status::Unproved(_) => 1,
+            Status::Secure | Status::Accepted | Status::Made => 0,
+            Status::Unproved(_) | Status::Rejected { .. } => 1,
             Status::Usage => 2,
             Status::Refused(_) => 3,
             Status::NoFile => 4,

@@ -1,61 +1,91 @@
-use Rattle.std.proofs.Common.{refl, subst}
+use Rattle.std.proofs.Common.{None, refl, subst}
 use Rattle.command_words.specs.declared.command.Command.{Command}
-use Rattle.command_words.specs.Commands.{Asks, check_request, request_of, verify_request}
+use Rattle.command_words.specs.Commands.{Means, check, check_request, generate, request_of, trial, verify, verify_request}
 use Rattle.command_words.specs.Names.{texts}
 use Rattle.maskverif_cli.specs.declared.status.Status.TheVariants.{Usage}
-use Rattle.maskverif_cli.specs.Answer.{not_taken}
-use Rattle.maskverif_cli.proofs.Asked.{made-shares, modest, not-checked, tried-shares}
-use Rattle.maskverif_cli.proofs.Ending.{finished, made-due, sent, tried-due, unread}
+use Rattle.maskverif_cli.specs.Answer.{AnswersCheck, AnswersNetlist, AnswersVerify, IsDueTo, IsMade, usage}
+use Rattle.maskverif_cli.specs.Gadgets.{gadget_text, trial_question}
+use Rattle.maskverif_cli.specs.Reply.{MayFail}
+use Rattle.maskverif_cli.proofs.Asked.{checked-order, made-shares, modest, tried-shares}
+use Rattle.maskverif_cli.proofs.Ending.{concluded, delivered, no-reads, sends-alone, unread}
+use Rattle.maskverif_cli.proofs.Replies.{ends-as}
 use Rattle.maskverif_cli.proofs.run.run_command.Goals as goal
 
 pub returns-in_default : goal.returns-in_default
 returns-in_default g c =
-    finished c.args.words.now _ _ c.usage.result.now Usage c.finish.result (not_taken c.in_default.ensures.other refl c.usage.ensures) refl (unread _ _ refl refl refl) c.finish.ensures
+    delivered c.args.words.now _ _ _ (unread _) refl Usage c.finish.result c.usage.result.now None
+    (usage (record { not_taken = c.in_default.ensures.other; status_is = refl; text_is = c.usage.ensures; no_file = refl })) refl
+    (sends-alone c.usage.result.now Usage c.finish.result _ _ refl refl refl c.finish.ensures)
 
-pub run_verify-requires : goal.run_verify-requires
-run_verify-requires g c =
+pub verify_file-end-requires : goal.verify_file-end-requires
+verify_file-end-requires g c =
     let words = texts c.args.words.now in
-    let asks = subst (λ (command : Command). Asks words (request_of command)) c.in-Verify.is c.in-Some.ensures.taken in
+    let asks = subst (λ (command : Command). Means words (request_of command)) c.in-Verify.is c.in-Some.ensures.taken in
     let limits = modest words (verify_request c.in-Verify.asked) asks in
     record { least = limits.least; most = limits.most; crew = limits.crew }
 
 pub returns-in-Verify : goal.returns-in-Verify
 returns-in-Verify g c =
-    let asks = subst (λ (command : Command). Asks (texts c.args.words.now) (request_of command)) c.in-Verify.is c.in-Some.ensures.taken in
-    c.run_verify.ensures c.args.words.now asks
-
-pub generate-requires : goal.generate-requires
-generate-requires g c =
     let words = texts c.args.words.now in
-    let asks = subst (λ (command : Command). Asks words (request_of command)) c.in-Generate.is c.in-Some.ensures.taken in
+    let disk = g.F.Files.disk c.args.files.now in
+    let asks = subst (λ (command : Command). Means words (request_of command)) c.in-Verify.is c.in-Some.ensures.taken in
+    let request = verify_request c.in-Verify.asked in
+    let read = c.verify_file-end.ensures in
+    concluded c.args.words.now _ _ _ (record { files = read.same; written = refl; writes = read.writes; sends = refl })
+    (verify request) asks request.certificate c.verify_file-end.result c.conclude.result
+    (ends-as (AnswersVerify disk request) (IsDueTo disk (verify request)) request.certificate MayFail _ (λ s t f h. h) (λ fails. refl) c.verify_file-end.result read.due)
+    read.reads c.conclude.ensures
+
+pub check_files-end-requires : goal.check_files-end-requires
+check_files-end-requires g c =
+    let words = texts c.args.words.now in
+    let asks = subst (λ (command : Command). Means words (request_of command)) c.in-Check.is c.in-Some.ensures.taken in
+    let limits = checked-order words (check_request c.in-Check.asked) asks in
+    record { least = limits.least; most = limits.most }
+
+pub returns-in-Check : goal.returns-in-Check
+returns-in-Check g c =
+    let words = texts c.args.words.now in
+    let disk = g.F.Files.disk c.args.files.now in
+    let asks = subst (λ (command : Command). Means words (request_of command)) c.in-Check.is c.in-Some.ensures.taken in
+    let request = check_request c.in-Check.asked in
+    let read = c.check_files-end.ensures in
+    concluded c.args.words.now _ _ _ (record { files = read.same; written = refl; writes = read.writes; sends = refl })
+    (check request) asks None c.check_files-end.result c.conclude-in-Check.result
+    (ends-as (AnswersCheck disk request) (IsDueTo disk (check request)) None MayFail _ (λ s t f h. h) (λ fails. refl) c.check_files-end.result read.due)
+    read.reads c.conclude-in-Check.ensures
+
+pub generate-end-requires : goal.generate-end-requires
+generate-end-requires g c =
+    let words = texts c.args.words.now in
+    let asks = subst (λ (command : Command). Means words (request_of command)) c.in-Generate.is c.in-Some.ensures.taken in
     let limits = made-shares words c.in-Generate.asked asks in
     record { least = limits.least; most = limits.most }
 
 pub returns-in-Generate : goal.returns-in-Generate
 returns-in-Generate g c =
-    let words = c.args.words.now in
-    let asks = subst (λ (command : Command). Asks (texts words) (request_of command)) c.in-Generate.is c.in-Some.ensures.taken in
-    sent words _ _ c.generate.result c.send.result
-    (made-due words (g.F.Files.disk c.args.files.now) c.in-Generate.asked c.generate.result asks c.generate.ensures.status c.generate.ensures.text)
-    (unread _ _ refl refl refl) c.send.ensures
-
-pub trial-requires : goal.trial-requires
-trial-requires g c =
     let words = texts c.args.words.now in
-    let asks = subst (λ (command : Command). Asks words (request_of command)) c.in-Trial.is c.in-Some.ensures.taken in
+    let disk = g.F.Files.disk c.args.files.now in
+    let asks = subst (λ (command : Command). Means words (request_of command)) c.in-Generate.is c.in-Some.ensures.taken in
+    let asked = c.in-Generate.asked in
+    concluded c.args.words.now _ _ _ (unread _) (generate asked) asks None c.generate-end.result c.conclude-in-Generate.result
+    (ends-as (IsMade asked) (IsDueTo disk (generate asked)) None ⊥ _ (λ s t f h. h) (λ fails. absurd fails) c.generate-end.result c.generate-end.ensures)
+    (no-reads (IsMade asked) None _ c.generate-end.result c.generate-end.ensures) c.conclude-in-Generate.ensures
+
+pub trial-end-requires : goal.trial-end-requires
+trial-end-requires g c =
+    let words = texts c.args.words.now in
+    let asks = subst (λ (command : Command). Means words (request_of command)) c.in-Trial.is c.in-Some.ensures.taken in
     let limits = tried-shares words c.in-Trial.asked asks in
     record { least = limits.least; most = limits.most }
 
 pub returns-in-Trial : goal.returns-in-Trial
 returns-in-Trial g c =
-    let words = c.args.words.now in
-    let asks = subst (λ (command : Command). Asks (texts words) (request_of command)) c.in-Trial.is c.in-Some.ensures.taken in
-    sent words _ _ c.trial.result c.send-in-Trial.result
-    (tried-due words (g.F.Files.disk c.args.files.now) c.in-Trial.asked c.trial.result asks c.trial.ensures)
-    (unread _ _ refl refl refl) c.send-in-Trial.ensures
-
-pub unreachable-requires : goal.unreachable-requires
-unreachable-requires g c =
     let words = texts c.args.words.now in
-    let asks = subst (λ (command : Command). Asks words (request_of command)) c.in-Check.is c.in-Some.ensures.taken in
-    not-checked words (check_request c.in-Check.field-0) asks
+    let disk = g.F.Files.disk c.args.files.now in
+    let asks = subst (λ (command : Command). Means words (request_of command)) c.in-Trial.is c.in-Some.ensures.taken in
+    let asked = c.in-Trial.asked in
+    let Tried = AnswersNetlist (trial_question asked.shares) None (gadget_text asked) in
+    concluded c.args.words.now _ _ _ (unread _) (trial asked) asks None c.trial-end.result c.conclude-in-Trial.result
+    (ends-as Tried (IsDueTo disk (trial asked)) None ⊥ _ (λ s t f h. h) (λ fails. absurd fails) c.trial-end.result c.trial-end.ensures)
+    (no-reads Tried None _ c.trial-end.result c.trial-end.ensures) c.conclude-in-Trial.ensures

@@ -5,6 +5,7 @@ use Rattle.maskverif_cli.specs.declared.report.Heading.{Heading}
 use Rattle.maskverif_cli.specs.Kept.{name_of_probe}
 use Rattle.maskverif_cli.specs.Report.{unproved_report}
 use Rattle.maskverif_cli.proofs.Deciding.{first-is-tuple, unproved-is}
+use Rattle.maskverif_cli.proofs.Replies.{unproved-plain}
 use Rattle.maskverif_cli.proofs.verify.unproved.Goals as goal
 
 pub rank-rank-requires : goal.rank-rank-requires
@@ -20,7 +21,7 @@ probe_lines-requires-clause-within c =
     subst (λ n. All (λ probe. probe < n) c.args.tuple.items) c.requires.kept.one_each is.below
 
 pub returns : goal.returns
-returns c bytes keeps =
+returns c wish bytes keeps =
     let asked = c.args.question in
     let kept = c.args.netlist.now in
     let names = map (name_of_probe kept) c.args.tuple.items in
@@ -28,6 +29,7 @@ returns c bytes keeps =
     let ranked = subst (λ (s : TupleSpace). slice_get (tuples s.n s.t) c.rank-rank.result ≡ Some c.args.tuple.items) c.requires.kept.counted c.rank-rank.ensures.place in
     let written = c.in_ok-text.ensures names lines
     ∙ ap (λ (h : Heading). unproved_report h.question.notion h.question.order h.question.model h.probes h.tuples c.rank-rank.result names) c.heading.ensures in
-    unproved-is asked.notion asked.order asked.model bytes kept keeps
+    unproved-plain asked wish bytes c.args.tuple c.in_ok-text.text.items
+    (unproved-is asked.notion asked.order asked.model bytes kept keeps
     (λ tuple. c.proved_is_provable.ensures kept.instance tuple c.requires.kept.table c.requires.kept.fitting)
-    c.rank-rank.result c.args.tuple.items c.in_ok-text.text.items c.requires.first ranked written
+    c.rank-rank.result c.args.tuple.items c.in_ok-text.text.items c.requires.first ranked written)

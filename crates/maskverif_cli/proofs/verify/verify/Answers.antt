@@ -1,16 +1,19 @@
-use Rattle.std.proofs.Common.{subst}
-use Rattle.circuit_types.specs.Causes.{IsRefusal}
-use Rattle.accepted_netlist.specs.Netlist.{HasRefusal}
-use Rattle.maskverif_cli.proofs.Ending.{kept-reply, refused-reply}
+use Rattle.std.proofs.lemmas.Result.{err_from_is_err_and}
+use Rattle.std.specs.Option.{option_copied}
+use Rattle.maskverif_cli.specs.Answer.{AnswersNetlist}
+use Rattle.maskverif_cli.specs.Kept.{RefusesBytes}
+use Rattle.maskverif_cli.proofs.Replies.{halts-as, refused-netlist}
 use Rattle.maskverif_cli.proofs.verify.verify.Goals as goal
 
-pub returns-in-Ok : goal.returns-in-Ok
-returns-in-Ok c = kept-reply c.args.question c.args.bytes.now c.in-Ok.netlist c.verdict.result c.in-Ok.ensures.accepted c.verdict.ensures
-
-pub returns-in-Err-Refused : goal.returns-in-Err-Refused
-returns-in-Err-Refused c =
+pub returns-in_err-netlist : goal.returns-in_err-netlist
+returns-in_err-netlist c =
     let asked = c.args.question in
-    let due = subst (IsRefusal (HasRefusal asked.notion asked.order asked.model c.args.bytes.now)) c.in-Err-Refused.field-0-is c.in-Err-Refused.ensures.refused in
-    let status = rw c.in-Err-Refused.field-0-is at c.refused.ensures.status in
-    let text = rw c.in-Err-Refused.field-0-is at c.refused.ensures.text in
-    refused-reply asked c.args.bytes.now c.in-Err-Refused.refusal c.refused.result due status text
+    let bytes = c.args.bytes.now in
+    let name = option_copied c.args.wish in
+    let p = err_from_is_err_and c.from_residual.result c.from_residual.ensures.1 in
+    rw (p.1, p.2)
+    (halts-as (RefusesBytes asked bytes) (AnswersNetlist asked name bytes) name ⊥ ⊥ (refused-netlist asked name bytes) (λ none. none) c.in_err-netlist.field-0.0
+    (c.in_err-netlist.ensures.refused name))
+
+pub returns : goal.returns
+returns c = c.verdict.ensures c.args.bytes.now c.in_ok-netlist.ensures.accepted
