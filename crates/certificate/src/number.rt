@@ -53,7 +53,8 @@ fn value_of(digits: &[u8]) -> Option<u64>
 
 /// The number that the bytes begin with, and what follows its digits.
 fn number(bytes: &[u8]) -> Option<(u64, &[u8])>
-    ensures { MatchOption result (NoNumberAfter (2 ^ 64) [] bytes.now) (λ found. NumberAfter (2 ^ 64) [] bytes.now found.0 found.1.now) }
+    ensures { MatchOption result (NoNumberAfter (2 ^ 64) [] bytes.now)
+        (λ found. NumberAfter (2 ^ 64) [] bytes.now found.0 found.1.now) }
 {
     let (front, rest) = bytes.split_at(digits(bytes));
     if !is_plain(front) {

@@ -71,7 +71,8 @@ fn reaches(
     requires rows { All (λ row. IsNewRowOf deques.now row.items) rows.items }
     requires count { vec_len rows ≡ vec_len owners }
     ensures reaches { IfOk result (λ v. AreReachesOf deques.now v.items) }
-    ensures views { IfOk result (λ v. map view_of v.items ≡ new_views (vec_len owners) (probes_of deques.now) (order_of deques.now)) }
+    ensures views { IfOk result
+        (λ v. map view_of v.items ≡ new_views (vec_len owners) (probes_of deques.now) (order_of deques.now)) }
 {
     let workers = owners.len() as u32;
     let mut owners = owners.into_iter();

@@ -16,7 +16,8 @@ pub fn takes_of(alloc: Global, parts: &[Part]) -> Result<Vec<u32>, NoMemory>
 pub fn step_down(parts: &[Part], numbers: &mut [u32]) -> bool
     requires { AreInside parts.now numbers.old }
     ensures inside { AreInside parts.now numbers.new }
-    ensures next { MatchBool result (later parts.now numbers.old ≡ numbers.new ∷ later parts.now numbers.new) (later parts.now numbers.old ≡ []) }
+    ensures next { MatchBool result
+        (later parts.now numbers.old ≡ numbers.new ∷ later parts.now numbers.new) (later parts.now numbers.old ≡ []) }
 {
     for i in (0..parts.len()).rev() {
         if numbers[i] > 0 {

@@ -40,7 +40,8 @@ fn has_failed(how: &Ending, rank: u64) -> bool
 /// The least tuple of a family that failed with this rank.
 fn failed_tuple(ended: &[Ended], rank: u64) -> Option<Tuple>
     requires { All (λ (e : Ended). total_take e.family.parts ≤ 8) ended.now }
-    ensures { MatchOption result (IsFalse (has (failed_ranks ended.now) rank)) (λ tuple. IsFailedTuple ended.now rank tuple.items) }
+    ensures { MatchOption result (IsFalse (has (failed_ranks ended.now) rank))
+        (λ tuple. IsFailedTuple ended.now rank tuple.items) }
 {
     for one in ended {
         if has_failed(&one.how, rank) {

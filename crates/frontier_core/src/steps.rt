@@ -144,7 +144,8 @@ impl Core {
         worker: u32,
         best: u64,
     ) -> Result<Stepped, NoMemory>
-        requires family { IfSome (held_by self.old worker) (λ family. IsFamily counts.now.n family × (family.size ≤ counts.now.t)) }
+        requires family { IfSome (held_by self.old worker)
+            (λ family. IsFamily counts.now.n family × (family.size ≤ counts.now.t)) }
         ensures answer { (x : Instance) → counts.now.n ≡ length x.probes
             → IfOk result (λ answer. answer ≡ answer_to x counts.now.t self.old (Event.Beyond worker best)) }
         ensures core { (x : Instance) → counts.now.n ≡ length x.probes

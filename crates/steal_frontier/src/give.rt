@@ -22,7 +22,8 @@ impl Seat {
         requires fits { All (FitsFrontier frontier.now) children.items }
         ensures keeps { KeepsFrontier self.old self.new }
         ensures gives { Gives (view_of self.old) how children.items (view_of self.new) }
-        ensures balance { (given : List Family) → Gave (view_of self.old) given → Gave (view_of self.new) (given ++ children.items) }
+        ensures balance { (given : List Family) → Gave (view_of self.old) given
+            → Gave (view_of self.new) (given ++ children.items) }
     {
         let _ = frontier;
         let Some(family) = self.held.take() else {
@@ -44,7 +45,8 @@ impl Seat {
 fn offer_last(reach: &mut Reach, families: &mut Vec<Family>)
     requires { All (Fits (reach_view_of reach.old).probes (reach_view_of reach.old).order) families.old.items }
     ensures deques { KeepsDeques reach.old reach.new }
-    ensures offered { Offers (reach_view_of reach.old) (reverse families.old.items) (reach_view_of reach.new) (reverse families.new.items) }
+    ensures offered { Offers (reach_view_of reach.old) (reverse families.old.items)
+        (reach_view_of reach.new) (reverse families.new.items) }
 {
     let Some(last) = families.pop() else {
         return;

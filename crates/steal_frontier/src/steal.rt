@@ -16,7 +16,8 @@ fn steal_among(reach: &mut Reach, deques: &Deques, from: u32, to: u32) -> Option
     requires others { ((view_of reach.old).number < from) ⊎ (to ≤ (view_of reach.old).number) }
     ensures deques { KeepsDeques reach.old reach.new }
     ensures stolen { IfSome result
-        (λ f. StealsFrom (length (deques_of deques.now)) (view_of reach.old) (range_with_len from (to - from)) f (view_of reach.new)) }
+        (λ f. StealsFrom (length (deques_of deques.now)) (view_of reach.old)
+        (range_with_len from (to - from)) f (view_of reach.new)) }
     ensures fits { IfSome result (Fits (view_of reach.old).probes (view_of reach.old).order) }
     ensures missed { IfNone result (MissesEach (view_of reach.old) (range_with_len from (to - from)) (view_of reach.new)) }
 {
@@ -33,10 +34,12 @@ pub(crate) fn steal_from_others(reach: &mut Reach, deques: &Deques) -> Option<Fa
     requires { IsReachOf deques.now reach.old }
     ensures deques { KeepsDeques reach.old reach.new }
     ensures stolen { IfSome result
-        (λ f. StealsFrom (length (deques_of deques.now)) (view_of reach.old) (others_of (length (deques_of deques.now)) (view_of reach.old).number) f (view_of reach.new)) }
+        (λ f. StealsFrom (length (deques_of deques.now)) (view_of reach.old)
+        (others_of (length (deques_of deques.now)) (view_of reach.old).number) f (view_of reach.new)) }
     ensures fits { IfSome result (Fits (view_of reach.old).probes (view_of reach.old).order) }
     ensures missed { IfNone result
-        (MissesEach (view_of reach.old) (others_of (length (deques_of deques.now)) (view_of reach.old).number) (view_of reach.new)) }
+        (MissesEach (view_of reach.old) (others_of (length (deques_of deques.now)) (view_of reach.old).number)
+        (view_of reach.new)) }
 {
     let number = reach.number();
     let workers = deques.workers();

@@ -30,7 +30,8 @@ fn leaf_table(
     roles: &Roles,
     notion: Notion,
 ) -> Result<ExprTable, Stop>
-    ensures table { IfOk result (λ table. table ≡ new_table (input_count notion roles.now circuit.now) (random_count notion roles.now circuit.now)) }
+    ensures table { IfOk result (λ table. table
+        ≡ new_table (input_count notion roles.now circuit.now) (random_count notion roles.now circuit.now)) }
     ensures leaves { IfOk result (HasLeaves notion roles.now circuit.now) }
     ensures cause { IfErr result (IsRefusal (IsDue (term_causes notion roles.now circuit.now))) }
 {

@@ -46,7 +46,8 @@ fn last_share_row(
     requires bits { AreShareBits roles.now bits.now }
     requires drawn { ShowBits table.old.nodes drawn.now (λ b. drawn_term secrets roles.now timing (input b 0)) }
     ensures { Makes table.old table.new
-        (joins (given_term secrets roles.now timing (leaf.secret secret)) (drawn_shares roles.now (drawn_term secrets roles.now timing) secret))
+        (joins (given_term secrets roles.now timing (leaf.secret secret))
+        (drawn_shares roles.now (drawn_term secrets roles.now timing) secret))
         (last_share roles.now (given_term secrets roles.now timing) (drawn_term secrets roles.now timing) secret) result }
 {
     let shares = roles.shares as usize;
@@ -76,7 +77,8 @@ fn share_row(
     requires drawn { ShowBits table.old.nodes drawn.now (λ b. drawn_term secrets roles.now timing (input b 0)) }
     ensures { Makes table.old table.new
         (role_joins roles.now (given_term secrets roles.now timing) (drawn_term secrets roles.now timing) (Share secret share))
-        (share_term secrets roles.now (given_term secrets roles.now timing) (drawn_term secrets roles.now timing) bit secret share) result }
+        (share_term secrets roles.now (given_term secrets roles.now timing) (drawn_term secrets roles.now timing)
+        bit secret share) result }
 {
     if is_drawn(roles, share) {
         return Ok(row_or_zero(drawn, bit as usize));
