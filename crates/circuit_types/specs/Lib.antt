@@ -2,6 +2,7 @@ pub mod Top
 pub mod Due
 pub mod Bits
 pub mod Items
+pub mod Letters
 pub mod Signals
 pub mod Drives
 pub mod Reads

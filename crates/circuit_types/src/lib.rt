@@ -20,6 +20,7 @@
 mod circuit;
 mod data_sources;
 mod laws;
+mod name;
 mod nets;
 mod probes;
 mod refusal;
@@ -33,6 +34,7 @@ pub use laws::{
     held_is_by_cells, one_refusal, order_stands_after, settled_is_least, settled_is_levelled,
     stable_is_by_cells, value_is_by_cells,
 };
+pub use name::Name;
 pub use nets::{NetCell, NetWire, Nets, Pin, SignalBit, Source, source_of};
 pub use probes::{Model, Probe, Probes};
 pub use refusal::{Refusal, Stop, Which};

@@ -1,5 +1,6 @@
 //! Constants, and the signals that connects join.
 
+use crate::name::Name;
 use sequences::Sequence;
 use sqlite_items::{Boxed, Items};
 
@@ -35,16 +36,16 @@ pub enum Value {
 
 /// What a connect joins.
 #[derive(Debug, Drop)]
-pub enum Signal {
+pub enum Signal<'a> {
     Value(Value),
     /// All bits of the wire of this name.
-    Wire(Sequence<u8>),
+    Wire(Name<'a>),
     /// The bits of a signal from place `high` down to place `low`, counted from 0 at the least significant.
     Slice {
-        of: Boxed<Signal>,
+        of: Boxed<Signal<'a>>,
         high: u32,
         low: u32,
     },
     /// The bits of all parts, the most significant part first.
-    Join(Items<Signal>),
+    Join(Items<Signal<'a>>),
 }

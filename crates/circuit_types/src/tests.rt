@@ -1,5 +1,5 @@
 //! Which module is the top one, by its attributes.
-use crate::{Attribute, BitValue, Bits, Module, Tree, Value, top};
+use crate::{Attribute, BitValue, Bits, Module, Name, Tree, Value, top};
 use sequences::Sequence;
 use std::alloc::{AllocError, Global};
 use std::test::Fail;
@@ -27,17 +27,20 @@ fn value(alloc: Global, short: Short) -> Result<Value, AllocError> {
 }
 
 /// A module with these attributes.
-fn module(alloc: Global, attributes: &[(&'static str, Short)]) -> Result<Module, AllocError> {
+fn module(
+    alloc: Global,
+    attributes: &[(&'static str, Short)],
+) -> Result<Module<'static>, AllocError> {
     let mut list = Vec::new(alloc);
     for (name, short) in attributes {
         list.push(Attribute {
-            name: Sequence::from_vec(Vec::from_slice(alloc, name.as_bytes())?),
+            name: Name::in_text(name.as_bytes()),
             value: value(alloc, *short)?,
         })?;
     }
     Ok(Module {
         line: 1,
-        name: Sequence::from_vec(Vec::new(alloc)),
+        name: Name::in_text(b"".as_slice()),
         attributes: Sequence::from_vec(list),
         items: Sequence::from_vec(Vec::new(alloc)),
     })

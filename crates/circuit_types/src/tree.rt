@@ -1,47 +1,48 @@
 //! The parts of a netlist text.
 
+use crate::name::Name;
 use crate::signal::{Signal, Value};
 use sequences::Sequence;
 
 /// The modules of a text, in order.
 #[derive(Debug, Drop)]
-pub struct Tree {
-    pub modules: Sequence<Module>,
+pub struct Tree<'a> {
+    pub modules: Sequence<Module<'a>>,
 }
 
 /// A module, from its `module` statement to its `end`.
 #[derive(Debug, Drop)]
-pub struct Module {
+pub struct Module<'a> {
     /// The number of the line of its first statement, counted from 1; so with all lines below.
     pub line: u32,
-    pub name: Sequence<u8>,
+    pub name: Name<'a>,
     /// The attributes that stand before it.
-    pub attributes: Sequence<Attribute>,
-    pub items: Sequence<Item>,
+    pub attributes: Sequence<Attribute<'a>>,
+    pub items: Sequence<Item<'a>>,
 }
 
 /// A note on a module, a wire or a cell.
 #[derive(Debug, Drop)]
-pub struct Attribute {
-    pub name: Sequence<u8>,
+pub struct Attribute<'a> {
+    pub name: Name<'a>,
     pub value: Value,
 }
 
 /// What a module is made of.
 #[derive(Debug, Drop)]
-pub enum Item {
-    Parameter(Parameter),
-    Wire(Wire),
-    Cell(Cell),
-    Connect(Connect),
+pub enum Item<'a> {
+    Parameter(Parameter<'a>),
+    Wire(Wire<'a>),
+    Cell(Cell<'a>),
+    Connect(Connect<'a>),
 }
 
 /// A parameter of a module or a cell. A module's is plain, and may have no value.
 #[derive(Debug, Drop)]
-pub struct Parameter {
+pub struct Parameter<'a> {
     pub line: u32,
     pub form: ParameterForm,
-    pub name: Sequence<u8>,
+    pub name: Name<'a>,
     pub value: Option<Value>,
 }
 
@@ -55,11 +56,11 @@ pub enum ParameterForm {
 
 /// A wire of some bits.
 #[derive(Debug, Drop)]
-pub struct Wire {
+pub struct Wire<'a> {
     pub line: u32,
-    pub name: Sequence<u8>,
+    pub name: Name<'a>,
     /// The attributes that stand before it.
-    pub attributes: Sequence<Attribute>,
+    pub attributes: Sequence<Attribute<'a>>,
     /// How many bits it has.
     pub width: u32,
     pub offset: i32,
@@ -78,28 +79,28 @@ pub enum Port {
 
 /// A cell of some kind.
 #[derive(Debug, Drop)]
-pub struct Cell {
+pub struct Cell<'a> {
     pub line: u32,
-    pub kind: Sequence<u8>,
-    pub name: Sequence<u8>,
+    pub kind: Name<'a>,
+    pub name: Name<'a>,
     /// The attributes that stand before it.
-    pub attributes: Sequence<Attribute>,
-    pub parameters: Sequence<Parameter>,
-    pub connects: Sequence<PortConnect>,
+    pub attributes: Sequence<Attribute<'a>>,
+    pub parameters: Sequence<Parameter<'a>>,
+    pub connects: Sequence<PortConnect<'a>>,
 }
 
 /// The signal on a port of a cell.
 #[derive(Debug, Drop)]
-pub struct PortConnect {
+pub struct PortConnect<'a> {
     pub line: u32,
-    pub port: Sequence<u8>,
-    pub signal: Signal,
+    pub port: Name<'a>,
+    pub signal: Signal<'a>,
 }
 
 /// Drives each bit of `left` by the bit of `right` at the same place.
 #[derive(Debug, Drop)]
-pub struct Connect {
+pub struct Connect<'a> {
     pub line: u32,
-    pub left: Signal,
-    pub right: Signal,
+    pub left: Signal<'a>,
+    pub right: Signal<'a>,
 }

@@ -1,10 +1,16 @@
 -- Items put one after another, each on its line, and the cells with their names.
 use Rattle.std.specs.Prelude.{◌≡◌, ℕ, ◌+◌, ◌*◌, ◌^◌, ◌<◌, ◌≤◌, List, [], ◌∷◌, ◌++◌, length, sum_by}
 use Rattle.circuit_types.specs.Items.{cells}
+use Rattle.circuit_types.specs.declared.signal.Signal.{Signal}
 use Rattle.circuit_types.specs.declared.tree.Item.{Item}
+use Rattle.circuit_types.specs.declared.tree.PortConnect.{PortConnect}
 use Rattle.rtlil_print.specs.PrintedLines.{item_height, items_at}
 use Rattle.gadget_maker.specs.Gadget.{named_from}
 use Rattle.gadget_maker.specs.declared.listing.Listing.{Listing}
+
+-- a cell's connect on its line, to the port of this name
+abbrev pub on_port : ℕ → List ℕ → Signal → PortConnect
+on_port line port s = record { line = line; port = port; signal = s }
 
 -- the items from a line on, their cells named from a number on
 abbrev pub placed : ℕ → ℕ → List Item → List Item

@@ -8,38 +8,37 @@ use crate::cells::put_cells;
 use crate::listing::Listing;
 use crate::pairs::{Crossing, Pair, crossings, pairs};
 use crate::wires::{put_inner_wires, put_ports};
-use circuit_types::{Attribute, Item, Module, NoMemory, Tree, Value};
+use circuit_types::{Attribute, Item, Module, Name, NoMemory, Tree, Value};
 use sequences::Sequence;
 use std::alloc::Global;
 
 /// The mark of the module that is verified.
-fn top_mark(alloc: Global) -> Result<Attribute, NoMemory>
-    ensures { IfOk result (λ attribute. attribute ≡ top_mark) }
+fn top_mark() -> Attribute<'static>
+    ensures { result ≡ top_mark }
 {
-    Ok(Attribute {
-        name: Sequence::from_vec(Vec::from_slice(alloc, b"\\top".as_slice())?),
+    Attribute {
+        name: Name::in_text(b"\\top"),
         value: Value::Number(1),
-    })
+    }
 }
 
 /// The tree of these items.
-fn tree_of(alloc: Global, items: Vec<Item>) -> Result<Tree, NoMemory>
+fn tree_of(alloc: Global, items: Vec<Item<'static>>) -> Result<Tree<'static>, NoMemory>
     ensures { IfOk result (λ tree. tree ≡ record {
       modules = record {
         line = 2;
         name = codes "\\gadget";
         attributes = top_mark ∷ [];
-        items = items.items;
+        items = items.entry.items;
       } ∷ [];
     }) }
 {
     let mut attributes = Vec::new(alloc);
-    attributes.push(top_mark(alloc)?)?;
-    let name = Vec::from_slice(alloc, b"\\gadget".as_slice())?;
+    attributes.push(top_mark())?;
     let mut modules = Vec::new(alloc);
     modules.push(Module {
         line: 2,
-        name: Sequence::from_vec(name),
+        name: Name::in_text(b"\\gadget"),
         attributes: Sequence::from_vec(attributes),
         items: Sequence::from_vec(items),
     })?;
@@ -55,7 +54,7 @@ fn items_of(
     shares: u32,
     pairs: &[Pair],
     crossings: &[Crossing],
-) -> Result<Vec<Item>, NoMemory>
+) -> Result<Vec<Item<'static>>, NoMemory>
     requires some { 2 ≤ shares }
     requires few { shares ≤ 16 }
     requires few_pairs { length pairs.now ≤ 256 }
@@ -76,7 +75,7 @@ fn items_of(
 /// The domain-oriented AND of so many shares, as a netlist's tree with the lines of its printed text. Bit `n` of the seed,
 /// counted round in 64 bits, says whether the random of the pair of number `n` is added negated.
 #[tactic(auto, unfolding(crate::specs::Gadget::gadget, crate::specs::Gadget::gadget_module))]
-pub fn make(alloc: Global, seed: u64, shares: u32) -> Result<Tree, NoMemory>
+pub fn make(alloc: Global, seed: u64, shares: u32) -> Result<Tree<'static>, NoMemory>
     requires some { 2 ≤ shares }
     requires few { shares ≤ 16 }
     ensures { IfOk result (λ tree. tree ≡ gadget_of seed shares) }

@@ -4,7 +4,7 @@ ghost use Rattle.std.specs.Prelude.{◌≡◌, ◌≤◌, ◌<◌, ◌+◌, ◌^
 ghost use Rattle.circuit_types.specs.declared.signal.Signal.TheVariants as signal;
 ghost use Rattle.gadget_maker.specs.Gadget.{name_of, cell_name, bit_of, pair_count, random_bit, sum_after, steps_before};
 
-use circuit_types::{NoMemory, Signal};
+use circuit_types::{Name, NoMemory, Signal};
 use itoa::Buffer;
 use sequences::Sequence;
 use sqlite_items::Boxed;
@@ -18,8 +18,8 @@ fn push_number(name: &mut Vec<u8>, number: u32) -> Result<(), NoMemory>
 }
 
 /// The name of an inner wire: a letter and two numbers.
-pub fn name(alloc: Global, letter: u8, first: u32, second: u32) -> Result<Vec<u8>, NoMemory>
-    ensures { IfOk result (λ name. name.items ≡ name_of letter first second) }
+pub fn name(alloc: Global, letter: u8, first: u32, second: u32) -> Result<Name<'static>, NoMemory>
+    ensures { IfOk result (λ name. name ≡ name_of letter first second) }
 {
     let mut name = Vec::new(alloc);
     name.push(b'\\')?;
@@ -28,38 +28,42 @@ pub fn name(alloc: Global, letter: u8, first: u32, second: u32) -> Result<Vec<u8
     push_number(&mut name, first)?;
     name.push(b'_')?;
     push_number(&mut name, second)?;
-    Ok(name)
+    Ok(Name::made(Sequence::from_vec(name)))
 }
 
 /// The name of the cell of this number.
-pub fn cell_name(alloc: Global, number: u32) -> Result<Vec<u8>, NoMemory>
-    ensures { IfOk result (λ name. name.items ≡ cell_name number) }
+pub fn cell_name(alloc: Global, number: u32) -> Result<Name<'static>, NoMemory>
+    ensures { IfOk result (λ name. name ≡ cell_name number) }
 {
     let mut name = Vec::from_slice(alloc, b"$g$".as_slice())?;
     push_number(&mut name, number)?;
-    Ok(name)
+    Ok(Name::made(Sequence::from_vec(name)))
 }
 
 /// The inner wire of this name.
-pub fn inner(alloc: Global, letter: u8, first: u32, second: u32) -> Result<Signal, NoMemory>
+pub fn inner(
+    alloc: Global,
+    letter: u8,
+    first: u32,
+    second: u32,
+) -> Result<Signal<'static>, NoMemory>
     ensures { IfOk result (λ s. s ≡ signal.Wire (name_of letter first second)) }
 {
-    let name = name(alloc, letter, first, second)?;
-    Ok(Signal::Wire(Sequence::from_vec(name)))
+    Ok(Signal::Wire(name(alloc, letter, first, second)?))
 }
 
 /// The wire of this name.
-pub fn wire(alloc: Global, name: &[u8]) -> Result<Signal, NoMemory>
-    ensures { IfOk result (λ s. s ≡ signal.Wire name.now) }
+pub fn wire(name: &'static [u8]) -> Signal<'static>
+    ensures { result ≡ signal.Wire name.now }
 {
-    Ok(Signal::Wire(Sequence::from_vec(Vec::from_slice(alloc, name)?)))
+    Signal::Wire(Name::in_text(name))
 }
 
 /// One bit of the wire of this name.
-pub fn bit_of(alloc: Global, name: &[u8], place: u32) -> Result<Signal, NoMemory>
+pub fn bit_of(alloc: Global, name: &'static [u8], place: u32) -> Result<Signal<'static>, NoMemory>
     ensures { IfOk result (λ s. s ≡ bit_of name.now place) }
 {
-    let of = Boxed::new(alloc, wire(alloc, name)?)?;
+    let of = Boxed::new(alloc, wire(name))?;
     Ok(Signal::Slice {
         of,
         high: place,
@@ -77,20 +81,25 @@ pub fn pair_count(shares: u32) -> u32
 }
 
 /// The random of this number.
-pub fn random_bit(alloc: Global, shares: u32, number: u32) -> Result<Signal, NoMemory>
+pub fn random_bit(alloc: Global, shares: u32, number: u32) -> Result<Signal<'static>, NoMemory>
     requires some { 2 ≤ shares }
     requires few { shares ≤ 16 }
     ensures { IfOk result (λ s. s ≡ random_bit shares number) }
 {
     if pair_count(shares) == 1 {
-        wire(alloc, b"\\r")
+        Ok(wire(b"\\r"))
     } else {
         bit_of(alloc, b"\\r", number)
     }
 }
 
 /// The sum of a row after so many of its steps.
-pub fn sum_after(alloc: Global, shares: u32, row: u32, steps: u32) -> Result<Signal, NoMemory>
+pub fn sum_after(
+    alloc: Global,
+    shares: u32,
+    row: u32,
+    steps: u32,
+) -> Result<Signal<'static>, NoMemory>
     requires { 2 ≤ shares }
     ensures { IfOk result (λ s. s ≡ sum_after shares row steps) }
 {

@@ -79,7 +79,7 @@ end
 "#;
 
 /// The items of the only module.
-fn items(tree: &Tree) -> &[Item] {
+fn items<'a>(tree: &'a Tree<'static>) -> &'a [Item<'static>] {
     match tree.modules.as_slice() {
         [unit] => unit.items.as_slice(),
         _ => &[],
@@ -87,7 +87,7 @@ fn items(tree: &Tree) -> &[Item] {
 }
 
 /// The line of a cell, or 0 of any other item.
-fn cell_line(item: &Item) -> u32 {
+fn cell_line(item: &Item<'_>) -> u32 {
     match item {
         Item::Cell(cell) => cell.line,
         _ => 0,
@@ -95,7 +95,7 @@ fn cell_line(item: &Item) -> u32 {
 }
 
 /// How many cells are of this kind.
-fn count_of(items: &[Item], kind: &[u8]) -> u32 {
+fn count_of(items: &[Item<'_>], kind: &[u8]) -> u32 {
     let mut count: u32 = 0;
     for item in items {
         if let Item::Cell(cell) = item {

@@ -1,7 +1,7 @@
 -- Which refusal is due.
-use Rattle.std.proofs.Common.{◌≡◌, ◌<◌, ◌≤◌, ℕ, ◌==◌, Bool, true, false, not, List, length, map, get_or, All, Option, Some, None, refl, sym, ap, ◌∙◌, subst, arith, inl, inr, ⊎_elim, position}
+use Rattle.std.proofs.Common.{◌≡◌, ◌<◌, ℕ, ◌==◌, true, not, List, length, get_or, All, Option, Some, None, refl, sym, ap, subst, inl, inr, ⊎_elim, position}
 use Rattle.std.specs.Option.{option_map_or}
-use Rattle.std.proofs.lemmas.Bool.{cases_lt, cases_Bool, both_ways, not-false, eq-eqb}
+use Rattle.std.proofs.lemmas.Bool.{cases_lt, cases_Bool, eq-eqb}
 use Rattle.std.proofs.lemmas.List.{get_or_past}
 use Rattle.std.proofs.lemmas.List.Folds.{list_any_at}
 use Rattle.cell_kinds.specs.Cells.{input_letters}
@@ -15,10 +15,10 @@ use Rattle.circuit_types.specs.declared.nets.Source.TheVariants as source
 use Rattle.circuit_types.specs.declared.refusal.Refusal.TheVariants.{GateLoop, RegisterLoop, ResetNotHeld, EnableNotHeld}
 use Rattle.circuit_types.specs.declared.roles.Roles.{Roles}
 use Rattle.circuit_types.specs.Causes.{AtCell, level_causes}
-use Rattle.circuit_types.specs.DataSources.{cell_at, pin_sources, port_source, gate_sources, data_sources, IsWithin, IsWired}
+use Rattle.circuit_types.specs.DataSources.{cell_at, pin_sources, port_source, IsWithin, IsWired}
 use Rattle.circuit_types.specs.Due.{IsDue, IsClear}
 use Rattle.circuit_types.specs.Held.{held_value, is_reset_held, is_enable_held, has_open_reset, has_open_enable}
-use Rattle.circuit_types.specs.Order.{has, order_of, order, is_levelled, is_settled, AllLevelled, AllSettled}
+use Rattle.circuit_types.specs.Order.{has, order_of, order, is_levelled, is_settled}
 use Rattle.circuit_types.proofs.Cells.{pins_within}
 use Rattle.circuit_types.proofs.Listing.{order_is_order}
 use Rattle.level_unroll.specs.declared.held.Held.{Held}

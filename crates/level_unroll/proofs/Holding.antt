@@ -1,5 +1,5 @@
 -- At what values the cells so far are held.
-use Rattle.std.proofs.Common.{◌≡◌, ◌<◌, ◌≤◌, ℕ, ◌+◌, Bool, true, false, ◌&&◌, ◌==◌, List, [], ◌∷◌, ◌++◌, All, length, map, take, set, get_or, Option, None, Some, refl, sym, ap, ◌∙◌, subst, arith, true≢false, ⊎_elim, length-set, get_or-set_same, get_or-set_other}
+use Rattle.std.proofs.Common.{◌≡◌, ◌<◌, ◌≤◌, ℕ, ◌+◌, Bool, true, false, ◌==◌, List, [], ◌∷◌, All, length, map, take, set, get_or, Option, None, refl, sym, ap, ◌∙◌, subst, arith, true≢false, ⊎_elim, get_or-set_same, get_or-set_other}
 use Rattle.std.specs.List.{list_all}
 use Rattle.std.proofs.lemmas.List.Folds.{list_any_at}
 use Rattle.std.specs.Option.{option_and_then}

@@ -1,10 +1,9 @@
 -- The least line of the cells so far.
-use Rattle.std.proofs.Common.{◌≡◌, ◌<◌, ◌≤◌, ◌⊎◌, ℕ, ◌+◌, min, Bool, true, false, List, length, Option, Some, None, refl, sym, ap, ◌∙◌, subst, arith, inl, inr, ⊎_elim}
+use Rattle.std.proofs.Common.{◌≡◌, ◌<◌, ◌≤◌, ◌⊎◌, ℕ, ◌+◌, min, Bool, true, false, length, Option, Some, None, sym, ap, ◌∙◌, subst, arith, inl, inr, ⊎_elim}
 use Rattle.std.proofs.lemmas.Bool.{cases_lt, both_ways}
 use Rattle.circuit_types.specs.declared.nets.Nets.{Nets}
 use Rattle.circuit_types.specs.Causes.{AtCell}
 use Rattle.circuit_types.specs.DataSources.{cell_at}
-use Rattle.circuit_types.specs.Due.{Never, IsLeast}
 use Rattle.level_unroll.specs.Lines.{IsLeastLine, AtCellBelow, lesser_line}
 
 module _ (nets : Nets) (test : ℕ → Bool) where

@@ -1,4 +1,5 @@
 pub mod Waits
+pub mod Links
 pub mod Placing
 pub mod Taking
 pub mod Turns

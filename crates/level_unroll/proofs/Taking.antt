@@ -1,24 +1,20 @@
 -- The next cell is taken from those that stand ready.
-use Rattle.std.proofs.Common.{◌≡◌, ◌<◌, ◌≤◌, ◌⊎◌, ℕ, ◌+◌, zero, suc, Bool, true, false, not, ◌&&◌, ◌||◌, ◌==◌, cond, List, [], ◌∷◌, ◌++◌, All, length, set, Option, Some, None, slice_get, get_or, refl, sym, ap, ◌∙◌, subst, arith, true≢false, inl, inr, ⊎_elim, length-set, get_or-set_same, get_or-set_other}
-use Rattle.std.specs.Option.{option_map_or}
-use Rattle.std.specs.List.{list_any, list_all, range_with_len}
+use Rattle.std.proofs.Common.{◌≡◌, ◌<◌, ◌≤◌, ℕ, Bool, true, false, not, ◌==◌, List, length, reverse, set, Some, None, get_or, refl, sym, ap, ◌∙◌, subst, arith, true≢false, ⊎_elim, length-set, get_or-set_same, get_or-set_other}
+use Rattle.std.specs.List.{list_all}
 use Rattle.std.specs.Ordering.{nat_cmp, is_eq, is_gt}
-use Rattle.std.specs.declared.cmp.Ordering.{Ordering}
-use Rattle.std.specs.declared.cmp.Ordering.TheVariants.{Less, Equal, Greater}
-use Rattle.std.proofs.lemmas.Bool.{and_parts, and_left, and_from, not-true, not-false, both_ways, cases_Bool, cases_eq, cases_lt, cases_order, cond-true, cond-false, eqb-true, eq-eqb, ne_eqb, lt-ltb, le-ltb, or_left, or_right}
-use Rattle.std.proofs.lemmas.Option.{slice_get_read}
+use Rattle.std.proofs.lemmas.Bool.{and_parts, and_from, not-true, both_ways, cases_Bool, cases_eq, cases_order, cond-true, cond-false, eq-eqb, ne_eqb, lt-ltb, le-ltb}
+use Rattle.std.proofs.lemmas.List.{get_or_default}
 use Rattle.circuit_types.specs.declared.nets.NetCell.{NetCell}
 use Rattle.circuit_types.specs.declared.nets.Nets.{Nets}
 use Rattle.circuit_types.specs.declared.nets.Source.{Source}
-use Rattle.circuit_types.specs.declared.nets.Source.TheVariants as source
 use Rattle.circuit_types.specs.DataSources.{cell_at}
 use Rattle.circuit_types.specs.Order.{has, is_ready, may_be_next, next_cell}
 use Rattle.circuit_types.proofs.Ranges.{found_first, none_found}
 use Rattle.circuit_types.proofs.Listing.{all_ready_more}
 use Rattle.level_unroll.specs.declared.queue.Queue.{Queue}
-use Rattle.level_unroll.specs.Queue.{is_in, reads_cell, is_listed, stands_ready, waits_for, IsQueue}
+use Rattle.level_unroll.specs.declared.queue.Wait.{Wait}
+use Rattle.level_unroll.specs.Queue.{cells_from, AreLinked, is_in, is_listed, stands_ready, waiting_from, waits_for, IsQueue, AreWoken}
 use Rattle.level_unroll.proofs.Waits.{ready_cell}
-use Rattle.level_unroll.proofs.Placing.{late_less}
 
 -- the order of numbers
 pub is_eq-nat_cmp : (x y : ℕ) → is_eq (nat_cmp x y) ≡ (x == y)
@@ -100,22 +96,27 @@ module _ (reads : NetCell → List Source) (nets : Nets) where
           below_least j a b = omega arith
 
       -- the cells that waited for it
-      module _ (woken : List ℕ) (waited : (k : ℕ) → waits_for q k cell ≡ has woken k) where
-        woken_waits : (k : ℕ) → has woken k ≡ true → waits_for q k cell ≡ true
-        woken_waits k h = waited k ∙ h
+      module _ (number : ℕ) (latest_is : number ≡ get_or q.latest.items cell number) where
+        number_is : number ≡ get_or q.latest.items cell 0
+        number_is = latest_is ∙ get_or_default q.latest.items cell number 0 (let one = old.one_number_each in omega (arith, one, within_ready))
 
-        pub woken_within : (k : ℕ) → has woken k ≡ true → k < length nets.cells
+        woken_waits : (k : ℕ) → has (waiting_from q number) k ≡ true → waits_for q k cell ≡ true
+        woken_waits k h = ap (λ n. has (waiting_from q n) k) (sym number_is) ∙ h
+
+        woken_from : (k : ℕ) → waits_for q k cell ≡ true → has (waiting_from q number) k ≡ true
+        woken_from k h = ap (λ n. has (waiting_from q n) k) number_is ∙ h
+
+        woken_within : (k : ℕ) → has (waiting_from q number) k ≡ true → k < length nets.cells
         woken_within k h = (old.each_waiting cell k unlisted_ready (woken_waits k h)).0
 
-        pub woken_other : (k : ℕ) → has woken k ≡ true → k ≡ cell → ⊥
+        woken_other : (k : ℕ) → has (waiting_from q number) k ≡ true → k ≡ cell → ⊥
         woken_other k h e = waits_not cell unlisted_ready (subst (λ n. waits_for q n cell ≡ true) e (woken_waits k h))
 
-        pub woken_unlisted : (k : ℕ) → has woken k ≡ true → is_in (set q.listed.items cell true) k ≡ false
+        woken_unlisted : (k : ℕ) → has (waiting_from q number) k ≡ true → is_in (set q.listed.items cell true) k ≡ false
         woken_unlisted k h = get_or-set_other q.listed.items cell k true false (woken_other k h) ∙ (old.each_waiting cell k unlisted_ready (woken_waits k h)).1
 
-        module _ (r : Queue) (flags : r.listed.items ≡ set q.listed.items cell true) (lists : length r.waiting.items ≡ length q.waiting.items)
-            (others_ready : (k : ℕ) → (k ≡ cell → ⊥) → stands_ready r k ≡ stands_ready q k) (taken : stands_ready r cell ≡ false)
-            (others_wait : (k c : ℕ) → (c ≡ cell → ⊥) → waits_for r k c ≡ waits_for q k c) where
+        module _ (r : Queue) (flags : r.listed.items ≡ set q.listed.items cell true) (latest : r.latest.items ≡ q.latest.items) (waits : r.waits.items ≡ q.waits.items)
+            (others_ready : (k : ℕ) → (k ≡ cell → ⊥) → stands_ready r k ≡ stands_ready q k) (taken : stands_ready r cell ≡ false) where
           listed_cell : is_listed r cell ≡ true
           listed_cell = ap (λ xs. get_or xs cell false) flags ∙ get_or-set_same q.listed.items cell true false (let len = old.one_flag_each in omega (arith, within_ready))
 
@@ -129,10 +130,19 @@ module _ (reads : NetCell → List Source) (nets : Nets) where
           listed_more k h =
               ⊎_elim (λ e. subst (λ n. is_listed r n ≡ true) (sym e) listed_cell) (λ other. listed_other k other ∙ h) (cases_eq k cell)
 
-          pub taken_queue : IsQueue reads nets (has woken) r
+          same_waits : (k c : ℕ) → waits_for r k c ≡ waits_for q k c
+          same_waits k c =
+              ap (λ (ws : List Wait). has (cells_from (reverse ws) (get_or r.latest.items c 0)) k) waits ∙ ap (λ ns. has (waiting_from q (get_or ns c 0)) k) latest
+
+          same_woken : (k : ℕ) → has (waiting_from r number) k ≡ has (waiting_from q number) k
+          same_woken k = ap (λ (ws : List Wait). has (cells_from (reverse ws) number) k) waits
+
+          taken_queue : IsQueue reads nets (has (waiting_from r number)) r
           taken_queue = record {
             one_flag_each = ap length flags ∙ length-set q.listed.items cell true ∙ old.one_flag_each;
-            one_list_each = lists ∙ old.one_list_each;
+            one_number_each = ap length latest ∙ old.one_number_each;
+            numbered = λ c. let a = ap (λ ns. get_or ns c 0) latest in let b = ap length waits in let le = old.numbered c in omega (arith, a, b, le);
+            linked = subst (λ (ws : List Wait). AreLinked (reverse ws)) (sym waits) old.linked;
             each_ready = λ k h.
                 let other : k ≡ cell → ⊥ = λ e. both_ways (stands_ready r cell) taken (subst (λ n. stands_ready r n ≡ true) e h) in
                 let before = old.each_ready k (sym (others_ready k other) ∙ h) in
@@ -144,21 +154,22 @@ module _ (reads : NetCell → List Source) (nets : Nets) where
             each_waiting = λ c k f h.
                 let c_other = unlisted_other c f in
                 let free : is_listed q c ≡ false = sym (listed_other c c_other) ∙ f in
-                let waits : waits_for q k c ≡ true = sym (others_wait k c c_other) ∙ h in
-                let before = old.each_waiting c k free waits in
-                let k_other : k ≡ cell → ⊥ = λ e. waits_not c free (subst (λ n. waits_for q n c ≡ true) e waits) in
+                let waits_k : waits_for q k c ≡ true = sym (same_waits k c) ∙ h in
+                let before = old.each_waiting c k free waits_k in
+                let k_other : k ≡ cell → ⊥ = λ e. waits_not c free (subst (λ n. waits_for q n c ≡ true) e waits_k) in
                 (before.0, listed_other k k_other ∙ before.1, before.2);
             each_placed = λ k lt u late f.
                 let k_other = unlisted_other k u in
                 let w = old.each_placed k lt (sym (listed_other k k_other) ∙ u) refl (sym (others_ready k k_other) ∙ f) in
-                let c_other : w.0 ≡ cell → ⊥ = λ e. both_ways (has woken k) late (sym (waited k) ∙ subst (λ n. waits_for q k n ≡ true) e w.2) in
-                (w.0, listed_other w.0 c_other ∙ w.1, others_wait k w.0 c_other ∙ w.2);
+                let c_other : w.0 ≡ cell → ⊥
+                = λ e. both_ways (has (waiting_from r number) k) late (same_woken k ∙ woken_from k (subst (λ n. waits_for q k n ≡ true) e w.2)) in
+                (w.0, listed_other w.0 c_other ∙ w.1, same_waits k w.0 ∙ w.2);
           }
 
--- no cell is late once all those that were late have been placed
-pub none_late : (reads : NetCell → List Source) (nets : Nets) (late : ℕ → Bool) (q : Queue) → IsQueue reads nets (λ k. late k && not (late k)) q → IsQueue reads nets (λ k. false) q
-none_late reads nets late q old = late_less reads nets (λ k. late k && not (late k)) (λ k. false) q (λ k lt h. both (late k)) old
-  where
-    both : (b : Bool) → (b && not b) ≡ false
-    both true = refl
-    both false = refl
+          -- their waits are over
+          pub taken_woken : AreWoken reads nets r number
+          taken_woken = record {
+            numbered = let le = old.numbered cell in let size = ap length waits in let is = number_is in omega (arith, le, size, is);
+            each = λ k h. let w = sym (same_woken k) ∙ h in (woken_within k w, ap (λ xs. get_or xs k false) flags ∙ woken_unlisted k w);
+            queue = taken_queue;
+          }

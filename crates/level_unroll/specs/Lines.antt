@@ -1,5 +1,5 @@
 -- The least line of the cells that pass a test.
-use Rattle.std.specs.Prelude.{ℕ, ◌<◌, ◌≡◌, Bool, IsTrue, List, length, Option, None, Some, slice_index_or, min}
+use Rattle.std.specs.Prelude.{ℕ, ◌<◌, ◌≡◌, Bool, IsTrue, Option, None, Some, min}
 use Rattle.std.specs.Option.{option_map_or}
 use Rattle.circuit_types.specs.declared.nets.Nets.{Nets}
 use Rattle.circuit_types.specs.Due.{Never, IsLeast}

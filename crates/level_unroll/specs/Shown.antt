@@ -1,5 +1,5 @@
 -- At what values bits and cells are held, as they are kept.
-use Rattle.std.specs.Prelude.{ℕ, ◌<◌, ◌≡◌, Bool, true, false, length, Option, None, Some, slice_index_or}
+use Rattle.std.specs.Prelude.{◌<◌, ◌≡◌, Bool, true, false, length, Option, None, Some, slice_index_or}
 use Rattle.circuit_types.specs.declared.nets.Nets.{Nets}
 use Rattle.circuit_types.specs.declared.nets.Source.{Source}
 use Rattle.circuit_types.specs.declared.nets.Source.TheVariants as source

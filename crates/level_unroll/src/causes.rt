@@ -51,7 +51,8 @@ fn unmarked_line(nets: &Nets, listed: &[bool]) -> Option<u32>
 /// The least line of a flip-flop whose reset is not held inactive.
 pub fn reset_line(nets: &Nets, held: &Held) -> Option<u32>
     requires { All (λ cell. All (IsKept held.now) (pin_sources cell)) nets.now.cells }
-    ensures { IsLeastLine (AtCell nets.now (λ k. has_open_reset (kept_value held.now) (cell_at nets.now k) (cell_at nets.now k).kind)) result }
+    ensures { IsLeastLine (AtCell nets.now (λ k.
+        has_open_reset (kept_value held.now) (cell_at nets.now k) (cell_at nets.now k).kind)) result }
 {
     let mut least = None;
     for cell in nets.cells.as_slice() {
@@ -65,7 +66,8 @@ pub fn reset_line(nets: &Nets, held: &Held) -> Option<u32>
 /// The least line of a flip-flop whose enable is not held active.
 pub fn enable_line(nets: &Nets, held: &Held) -> Option<u32>
     requires { All (λ cell. All (IsKept held.now) (pin_sources cell)) nets.now.cells }
-    ensures { IsLeastLine (AtCell nets.now (λ k. has_open_enable (kept_value held.now) (cell_at nets.now k) (cell_at nets.now k).kind)) result }
+    ensures { IsLeastLine (AtCell nets.now (λ k.
+        has_open_enable (kept_value held.now) (cell_at nets.now k) (cell_at nets.now k).kind)) result }
 {
     let mut least = None;
     for cell in nets.cells.as_slice() {

@@ -16,7 +16,7 @@ pub fn order(alloc: Global, nets: &Nets, timing: Timing) -> Result<Vec<u32>, NoM
     let mut queue = Queue::new(alloc, nets, timing)?;
     let mut order = Vec::new(alloc);
     for _turn in 0..nets.cells.as_slice().len() {
-        let Some(cell) = queue.next(alloc, nets, timing)? else {
+        let Some(cell) = queue.next(nets, timing)? else {
             return Ok(order);
         };
         order.push(cell)?;

@@ -1,15 +1,14 @@
 //! The cells that may come next, least number first.
-ghost use Rattle.std.specs.Prelude.{◌≡◌, ◌<◌, ℕ, ◌==◌, ◌&&◌, not, Bool, List, [], ◌∷◌, true, false, All, IfOk, IfSome, OnOk, MatchOption, IsFalse, length, map, slice_set, replicate};
+ghost use Rattle.std.specs.Prelude.{◌≡◌, ◌+◌, ◌<◌, ℕ, ◌==◌, ◌&&◌, not, Bool, List, [], ◌∷◌, ◌++◌, true, false, All, IfOk, IfSome, OnOk, MatchOption, IsFalse, length, map, slice_index, slice_set, replicate};
 ghost use Rattle.circuit_types.specs.DataSources.{data_sources, pin_sources, IsWired};
 ghost use Rattle.circuit_types.specs.Order.{has, next_cell};
 ghost use Rattle.circuit_types.specs.declared.nets.Pin.{Pin as AnyPin};
-ghost use Rattle.level_unroll.specs.Queue.{is_in, is_listed, Awaits, IsBelow, IsQueue};
+ghost use Rattle.level_unroll.specs.Queue.{is_in, is_listed, HasWaits, Awaits, IsBelow, IsQueue, AreWoken};
 
 use cell_kinds::CellKind;
 use circuit_types::{NetCell, Nets, NoMemory, Pin, Source, Timing};
 use std::alloc::Global;
 use std::collections::BTreeSet;
-use std::mem;
 
 /// The cells of a netlist while they are put in order.
 #[derive(Drop)]
@@ -18,8 +17,19 @@ pub struct Queue {
     listed: Vec<bool>,
     /// The cells that may be next.
     ready: BTreeSet<u32>,
-    /// By number, the cells that wait for this one. Each waits for one cell, which is not listed.
-    waiting: Vec<Vec<u32>>,
+    /// By number, the number of the latest wait for this cell, or 0.
+    latest: Vec<usize>,
+    /// The waits in the order in which they began, over and done with or not. A cell waits for one cell at a time, which is
+    /// not listed.
+    waits: Vec<Wait>,
+}
+
+/// A cell that waits for another one.
+#[derive(Clone, Copy)]
+struct Wait {
+    cell: u32,
+    /// The number of the wait for the same cell that began before this one, counted from 1 over all waits, or 0.
+    earlier: usize,
 }
 
 impl Queue {
@@ -30,31 +40,45 @@ impl Queue {
         ensures queue { IfOk result (IsQueue (data_sources timing) nets.now (λ k. false)) }
     {
         let count = nets.cells.as_slice().len();
-        let mut queue = Queue {
-            listed: vec![in alloc; false; count]?,
-            ready: BTreeSet::new(alloc),
-            waiting: lists(alloc, count)?,
-        };
+        let mut queue = Queue::empty(alloc, count)?;
         for cell in 0..count {
             queue.place(nets, timing, cell as u32)?;
         }
         Ok(queue)
     }
 
+    /// Of so many cells none is in the order, may be next or waits.
+    fn empty(alloc: Global, count: usize) -> Result<Queue, NoMemory>
+        ensures listed { IfOk result (λ q. q.listed.items ≡ replicate count false) }
+        ensures ready { IfOk result (λ q. q.ready.keys ≡ []) }
+        ensures latest { IfOk result (λ q. q.latest.items ≡ replicate count 0) }
+        ensures waits { IfOk result (λ q. q.waits.items ≡ []) }
+    {
+        let listed = vec![in alloc; false; count]?;
+        let latest = vec![in alloc; 0; count]?;
+        Ok(Queue {
+            listed,
+            ready: BTreeSet::new(alloc),
+            latest,
+            waits: Vec::new(alloc),
+        })
+    }
+
     /// The cell may be next, or it waits for one that is not listed.
     fn place(&mut self, nets: &Nets, timing: Timing, cell: u32) -> Result<(), NoMemory>
         requires wired { IsWired nets.now }
         requires flags { length self.old.listed.items ≡ length nets.now.cells }
-        requires lists { length self.old.waiting.items ≡ length nets.now.cells }
+        requires numbers { length self.old.latest.items ≡ length nets.now.cells }
         requires within { cell < length nets.now.cells }
         requires unlisted { IsFalse (is_listed self.old cell) }
         ensures flags { self.new.listed ≡ self.old.listed }
-        ensures lists { length self.new.waiting.items ≡ length nets.now.cells }
+        ensures numbers { length self.new.latest.items ≡ length nets.now.cells }
+        ensures waits { OnOk result (HasWaits self.old self.new) }
         ensures placed { OnOk result ((late : ℕ → Bool) → IsQueue (data_sources timing) nets.now late self.old
             → IsQueue (data_sources timing) nets.now (λ k. late k && not (k == cell)) self.new) }
     {
         match awaited(&nets.cells.as_slice()[cell as usize], timing, &self.listed) {
-            Some(other) => self.waiting[other as usize].push(cell)?,
+            Some(other) => self.put_off(cell, other)?,
             None => {
                 let _ = self.ready.insert(cell)?;
             }
@@ -62,13 +86,25 @@ impl Queue {
         Ok(())
     }
 
+    /// From now on the cell waits for the other one.
+    fn put_off(&mut self, cell: u32, other: u32) -> Result<(), NoMemory>
+        requires { other < length self.old.latest.items }
+        ensures flags { self.new.listed ≡ self.old.listed }
+        ensures ready { self.new.ready ≡ self.old.ready }
+        ensures numbers { length self.new.latest.items ≡ length self.old.latest.items }
+        ensures latest { OnOk result (self.new.latest.items
+            ≡ slice_set self.old.latest.items other (length self.old.waits.items + 1)) }
+        ensures waits { OnOk result (self.new.waits.items
+            ≡ self.old.waits.items ++ record { cell = cell; earlier = slice_index self.old.latest.items other } ∷ []) }
+    {
+        let earlier = self.latest[other as usize];
+        self.waits.push(Wait { cell, earlier })?;
+        self.latest[other as usize] = self.waits.len();
+        Ok(())
+    }
+
     /// Takes the next cell into the order, or tells that there is none.
-    pub fn next(
-        &mut self,
-        alloc: Global,
-        nets: &Nets,
-        timing: Timing,
-    ) -> Result<Option<u32>, NoMemory>
+    pub fn next(&mut self, nets: &Nets, timing: Timing) -> Result<Option<u32>, NoMemory>
         requires wired { IsWired nets.now }
         requires queue { IsQueue (data_sources timing) nets.now (λ k. false) self.old }
         ensures next { IfOk result (λ next. (listed : List ℕ) → ((k : ℕ) → is_listed self.old k ≡ has listed k)
@@ -81,38 +117,26 @@ impl Queue {
             return Ok(None);
         };
         self.listed[cell as usize] = true;
-        let woken = mem::replace(&mut self.waiting[cell as usize], Vec::new(alloc));
-        self.place_all(nets, timing, &woken)?;
+        let latest = self.latest[cell as usize];
+        self.place_all(nets, timing, latest)?;
         Ok(Some(cell))
     }
 
-    fn place_all(&mut self, nets: &Nets, timing: Timing, cells: &[u32]) -> Result<(), NoMemory>
+    /// Places the cells whose waits are over: that of the wait with this number, and those of the waits that it is linked to.
+    fn place_all(&mut self, nets: &Nets, timing: Timing, latest: usize) -> Result<(), NoMemory>
         requires wired { IsWired nets.now }
-        requires flags { length self.old.listed.items ≡ length nets.now.cells }
-        requires lists { length self.old.waiting.items ≡ length nets.now.cells }
-        requires within { All (λ k. k < length nets.now.cells) cells.now }
-        requires unlisted { All (λ k. IsFalse (is_listed self.old k)) cells.now }
+        requires woken { AreWoken (data_sources timing) nets.now self.old latest }
         ensures flags { self.new.listed ≡ self.old.listed }
-        ensures placed { OnOk result ((late : ℕ → Bool) → IsQueue (data_sources timing) nets.now late self.old
-            → IsQueue (data_sources timing) nets.now (λ k. late k && not (has cells.now k)) self.new) }
+        ensures queue { OnOk result (IsQueue (data_sources timing) nets.now (λ k. false) self.new) }
     {
-        for cell in cells {
-            self.place(nets, timing, *cell)?;
+        let mut number = latest;
+        while number != 0 {
+            let wait = self.waits[number - 1];
+            self.place(nets, timing, wait.cell)?;
+            number = wait.earlier;
         }
         Ok(())
     }
-}
-
-/// So many empty lists.
-fn lists(alloc: Global, count: usize) -> Result<Vec<Vec<u32>>, NoMemory>
-    ensures len { IfOk result (λ lists. length lists.items ≡ count) }
-    ensures empty { IfOk result (λ lists. All (λ list. list.items ≡ []) lists.items) }
-{
-    let mut lists = Vec::with_capacity(alloc, count)?;
-    for _made in 0..count {
-        lists.push(Vec::new(alloc))?;
-    }
-    Ok(lists)
 }
 
 /// A data source of the cell that is a cell and is not listed, if there is one.

@@ -92,12 +92,12 @@ impl<'a, V: Copy> NameTable<'a, V> {
         Ok(())
     }
 
-    /// Makes more slots where there are fewer slots than names.
+    /// Makes more slots where, with one name more, there are fewer than twice as many slots as names.
     fn make_room(&mut self) -> Result<(), NoMemory>
         ensures { OnOk result (self.new ≡ self.old) }
     {
         let slots = self.slots.heads.len();
-        if self.slots.entries.len() >= slots && slots < MOST_SLOTS {
+        if self.slots.entries.len() >= slots / 2 && slots < MOST_SLOTS {
             self.slots = self.slots.moved(self.alloc, more_slots(slots))?;
         }
         Ok(())

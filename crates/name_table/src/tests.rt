@@ -87,11 +87,11 @@ fn finds_each_of_many(rt: HostRuntime) -> Result<(), Fail> {
     finds_each(&rt, rt.alloc(), &names)
 }
 
-/// Names of one slot, also where there are 64: more than fill it.
+/// Names of one slot, also where there are 256: more than fill it.
 const CROWD: [&[u8]; 36] = [
-    b"bz", b"c*", b"cf", b"d#", b"e,", b"e4", b"g(", b"g0", b"i;", b"ih", b"io", b"ip", b"iw",
-    b"j'", b"ks", b"mN", b"n%", b"o?", b"oJ", b"oR", b"ol", b"p-", b"p5", b"p@", b"qZ", b"r1",
-    b"sx", b"ti", b"tq", b"uX", b"vD", b"xO", b"y&", b"zK", b"zS", b"zm",
+    b"!&", b"&>", b",|", b"-F", b"/(", b"/7", b"/d", b"1?", b"1R", b"1l", b"3p", b"7N", b":)",
+    b":e", b"A-", b"A@", b"C1", b"FX", b"MU", b"Nb", b"Pj", b"QY", b"XV", b"Yc", b"Zt", b"aC",
+    b"bL", b"ca", b"f[", b"ir", b"l$", b"on", b"p0", b"sz", b"v,", b"zw",
 ];
 
 #[test]

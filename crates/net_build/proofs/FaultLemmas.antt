@@ -1,7 +1,8 @@
 -- Faults of two lists together.
 use Rattle.std.proofs.Common.{◌≡◌, ℕ, ◌+◌, ◌<◌, ◌≤◌, Bool, true, false, ◌&&◌, ◌||◌, not, cond, min, List, [], ◌∷◌, ◌++◌, length, take, map, filter, get_or, Option, Some, None, refl, sym, ap, ◌∙◌, subst, arith, append_assoc, zero, suc, nat_eq, ◌==◌}
 use Rattle.std.specs.List.{list_any, flat_map}
-use Rattle.std.specs.Option.{is_some}
+use Rattle.std.specs.Option.{is_some, is_none}
+use Rattle.std.proofs.lemmas.Bool.{and_parts, not-true}
 use Rattle.std.proofs.lemmas.List.{take_more, append-nil}
 use Rattle.circuit_types.specs.Items.{cells, is_kept, kept_cells}
 use Rattle.circuit_types.specs.Nets.{Link, port_link, item_links, links, is_too_wide, is_unnamed, is_badly_sliced, is_mismatched, is_unsupported, is_module, lacks_port}
@@ -18,7 +19,7 @@ use Rattle.net_build.proofs.BitLemmas.{narrow_width}
 use Rattle.circuit_types.specs.declared.nets.NetWire.{NetWire}
 use Rattle.cell_kinds.specs.declared.kind.CellKind.{CellKind}
 use Rattle.circuit_types.specs.declared.refusal.Refusal.{Refusal}
-use Rattle.net_build.specs.Faults.{earlier_of, least_of, AreFaults, else_all, else_line, refusal_in}
+use Rattle.net_build.specs.Faults.{earlier_of, least_of, nothing, is_nothing, together, AreFaults, else_all, else_line, refusal_in}
 use Rattle.net_build.specs.declared.faults.Faults.{Faults}
 
 earlier_assoc : (a b c : Option ℕ) → earlier_of (earlier_of a b) c ≡ earlier_of a (earlier_of b c)
@@ -68,18 +69,60 @@ both_lines a a' b b' p q = ap (λ v. earlier_of v b) p ∙ ap (earlier_of a') q
 both_bools : (a a' b b' : Bool) → a ≡ a' → b ≡ b' → a || b ≡ a' || b'
 both_bools a a' b b' p q = ap (λ v. v || b) p ∙ ap (λ v. a' || v) q
 
+-- faults that are the same in each field
+same_faults : (f g : Faults) → f.too_wide ≡ g.too_wide → f.unsupported ≡ g.unsupported → f.hierarchy ≡ g.hierarchy → f.no_wire ≡ g.no_wire → f.bad_slice ≡ g.bad_slice
+    → f.mismatch ≡ g.mismatch → f.missing ≡ g.missing → f ≡ g
+same_faults f g a b c d e m p =
+    subst (λ v. f ≡ record { too_wide = v; unsupported = g.unsupported; hierarchy = g.hierarchy; no_wire = g.no_wire; bad_slice = g.bad_slice; mismatch = g.mismatch; missing = g.missing }) a
+    (subst (λ v. f ≡ record { too_wide = f.too_wide; unsupported = v; hierarchy = g.hierarchy; no_wire = g.no_wire; bad_slice = g.bad_slice; mismatch = g.mismatch; missing = g.missing }) b
+    (subst (λ v. f ≡ record { too_wide = f.too_wide; unsupported = f.unsupported; hierarchy = v; no_wire = g.no_wire; bad_slice = g.bad_slice; mismatch = g.mismatch; missing = g.missing }) c
+    (subst (λ v. f ≡ record { too_wide = f.too_wide; unsupported = f.unsupported; hierarchy = f.hierarchy; no_wire = v; bad_slice = g.bad_slice; mismatch = g.mismatch; missing = g.missing }) d
+    (subst (λ v. f ≡ record { too_wide = f.too_wide; unsupported = f.unsupported; hierarchy = f.hierarchy; no_wire = f.no_wire; bad_slice = v; mismatch = g.mismatch; missing = g.missing }) e
+    (subst (λ v. f ≡ record { too_wide = f.too_wide; unsupported = f.unsupported; hierarchy = f.hierarchy; no_wire = f.no_wire; bad_slice = f.bad_slice; mismatch = v; missing = g.missing }) m
+    (subst (λ v. f ≡ record { too_wide = f.too_wide; unsupported = f.unsupported; hierarchy = f.hierarchy; no_wire = f.no_wire; bad_slice = f.bad_slice; mismatch = f.mismatch; missing = v }) p
+    refl))))))
+
+earlier_alone : (o : Option ℕ) → o ≡ earlier_of o None
+earlier_alone None = refl
+earlier_alone (Some x) = refl
+
+or_alone : (b : Bool) → b ≡ b || false
+or_alone true = refl
+or_alone false = refl
+
+-- one part where nothing is wrong with the other
+pub alone : (f : Faults) → f ≡ together f nothing
+alone f =
+    same_faults f (together f nothing) (or_alone f.too_wide) (earlier_alone f.unsupported) (earlier_alone f.hierarchy) (earlier_alone f.no_wire)
+    (earlier_alone f.bad_slice) (earlier_alone f.mismatch) (earlier_alone f.missing)
+
+no_line : (o : Option ℕ) → is_none o ≡ true → None ≡ o
+no_line None h = refl
+no_line (Some x) h = cc
+
+-- nothing is wrong where no field says so
+pub nothing_wrong : (f : Faults) → is_nothing f ≡ true → nothing ≡ f
+nothing_wrong f h =
+    let two = not f.too_wide && is_none f.unsupported in
+    let three = two && is_none f.hierarchy in
+    let four = three && is_none f.no_wire in
+    let five = four && is_none f.bad_slice in
+    let a = and_parts (five && is_none f.mismatch) (is_none f.missing) h in
+    let b = and_parts five (is_none f.mismatch) a.0 in
+    let c = and_parts four (is_none f.bad_slice) b.0 in
+    let d = and_parts three (is_none f.no_wire) c.0 in
+    let e = and_parts two (is_none f.hierarchy) d.0 in
+    let g = and_parts (not f.too_wide) (is_none f.unsupported) e.0 in
+    same_faults nothing f (sym (not-true f.too_wide g.0)) (no_line f.unsupported g.1) (no_line f.hierarchy e.1) (no_line f.no_wire d.1)
+    (no_line f.bad_slice c.1) (no_line f.mismatch b.1) (no_line f.missing a.1)
+
+-- what is found of some faults
+pub as_found : (ls : List Link) (cs : List Cell) (f r : Faults) → r ≡ f → AreFaults ls cs f → AreFaults ls cs r
+as_found ls cs f r e a = subst (λ (v : Faults). AreFaults ls cs v) (sym e) a
+
 -- the faults of both are the faults of all
 pub join_faults : (ls ms : List Link) (cs ds : List Cell) (f g r : Faults) → AreFaults ls cs f → AreFaults ms ds g
-    → r ≡ record {
-      too_wide = f.too_wide || g.too_wide;
-      unsupported = earlier_of f.unsupported g.unsupported;
-      hierarchy = earlier_of f.hierarchy g.hierarchy;
-      no_wire = earlier_of f.no_wire g.no_wire;
-      bad_slice = earlier_of f.bad_slice g.bad_slice;
-      mismatch = earlier_of f.mismatch g.mismatch;
-      missing = earlier_of f.missing g.missing;
-    }
-    → AreFaults (ls ++ ms) (cs ++ ds) r
+    → r ≡ together f g → AreFaults (ls ++ ms) (cs ++ ds) r
 join_faults ls ms cs ds f g r a b e = subst (λ (v : Faults). AreFaults (ls ++ ms) (cs ++ ds) v) (sym e) (record {
   too_wide = both_bools f.too_wide (list_any is_too_wide ls) g.too_wide (list_any is_too_wide ms) a.too_wide b.too_wide ∙ sym (any-append' is_too_wide ls ms);
   unsupported = both_lines f.unsupported _ g.unsupported _ a.unsupported b.unsupported ∙ sym (least_both (λ (c : Cell). c.line) is_unsupported cs ds);
@@ -107,16 +150,7 @@ none_line f p = refl
 -- one part more
 pub next_port : (ws : List NetWire) (kind : Option CellKind) (xs : List PortConnect) (i : ℕ) (x : PortConnect) (cs : List Cell) (f g r : Faults) → i < length xs → x ≡ get_or xs i x
     → AreFaults (map (port_link ws kind) (take i xs)) cs f → AreFaults (port_link ws kind x ∷ []) [] g
-    → r ≡ record {
-      too_wide = f.too_wide || g.too_wide;
-      unsupported = earlier_of f.unsupported g.unsupported;
-      hierarchy = earlier_of f.hierarchy g.hierarchy;
-      no_wire = earlier_of f.no_wire g.no_wire;
-      bad_slice = earlier_of f.bad_slice g.bad_slice;
-      mismatch = earlier_of f.mismatch g.mismatch;
-      missing = earlier_of f.missing g.missing;
-    }
-    → AreFaults (map (port_link ws kind) (take (i + 1) xs)) cs r
+    → r ≡ together f g → AreFaults (map (port_link ws kind) (take (i + 1) xs)) cs r
 next_port ws kind xs i x cs f g r h e a b q =
     let all = join_faults (map (port_link ws kind) (take i xs)) (port_link ws kind x ∷ []) cs [] f g r a b q in
     let t : map (port_link ws kind) (take (i + 1) xs) ≡ map (port_link ws kind) (take i xs) ++ port_link ws kind x ∷ []
@@ -137,10 +171,7 @@ flat-append : {X Y : Type 0} (f : X → List Y) (xs ys : List X) → flat_map f 
 flat-append f [] ys = refl
 flat-append f (x ∷ xs) ys = ap (λ v. f x ++ v) (flat-append f xs ys) ∙ sym (append_assoc (f x) (flat_map f xs) (flat_map f ys))
 
-abbrev pub none : Faults
-none = record { too_wide = false; unsupported = None; hierarchy = None; no_wire = None; bad_slice = None; mismatch = None; missing = None }
-
-pub no_faults : AreFaults [] [] none
+pub no_faults : AreFaults [] [] nothing
 no_faults = record {
   too_wide = refl;
   unsupported = none_line (λ (c : Cell). c.line) is_unsupported;
@@ -152,7 +183,7 @@ no_faults = record {
 }
 
 pub other_faults : (ws : List NetWire) (x : Item) → ((c : Cell) → x ≡ item.Cell c → ⊥) → ((c : Connect) → x ≡ item.Connect c → ⊥)
-    → AreFaults (item_links ws x) (kept_cells (x ∷ [])) none
+    → AreFaults (item_links ws x) (kept_cells (x ∷ [])) nothing
 unfolding item_links
 other_faults ws (item.Cell c) n m = absurd (n c refl)
 other_faults ws (item.Connect c) n m = absurd (m c refl)
@@ -160,13 +191,13 @@ other_faults ws (item.Wire w) n m = no_faults
 other_faults ws (item.Parameter p) n m = no_faults
 
 dropped_cell : (ws : List NetWire) (c : Cell) (b : Bool) → b ≡ false
-    → AreFaults (cond b (map (port_link ws (kind_named c.kind)) c.connects) []) (cond b (c ∷ []) []) none
+    → AreFaults (cond b (map (port_link ws (kind_named c.kind)) c.connects) []) (cond b (c ∷ []) []) nothing
 dropped_cell ws c true h = cc
 dropped_cell ws c false h = no_faults
 
-pub scope_faults : (ws : List NetWire) (x : Item) (c : Cell) → x ≡ item.Cell c → is_kept c ≡ false → AreFaults (item_links ws x) (kept_cells (x ∷ [])) none
+pub scope_faults : (ws : List NetWire) (x : Item) (c : Cell) → x ≡ item.Cell c → is_kept c ≡ false → AreFaults (item_links ws x) (kept_cells (x ∷ [])) nothing
 unfolding item_links
-scope_faults ws x c e h = subst (λ v. AreFaults (item_links ws v) (kept_cells (v ∷ [])) none) (sym e) (dropped_cell ws c (is_kept c) h)
+scope_faults ws x c e h = subst (λ v. AreFaults (item_links ws v) (kept_cells (v ∷ [])) nothing) (sym e) (dropped_cell ws c (is_kept c) h)
 
 kept_links : (ws : List NetWire) (c : Cell) (b : Bool) → b ≡ true → cond b (map (port_link ws (kind_named c.kind)) c.connects) [] ≡ map (port_link ws (kind_named c.kind)) c.connects
 kept_links ws c true h = refl
@@ -226,6 +257,18 @@ pub port_fits : (p' p : Bool) (w' w : ℕ) → p' ≡ p → w' ≡ min w cap →
 port_fits p' p w' w e h =
     ap (λ v. not (not v || nat_eq w' 1)) e
     ∙ (ap (λ v. not (not p || nat_eq v 1)) h ∙ ap (λ v. not (not p || v)) (capped_one w))
+
+-- a connect with which nothing is wrong
+pub fine_link : (l : Link) → list_any is_too_wide (l ∷ []) ≡ false → is_unnamed l ≡ false → is_badly_sliced l ≡ false → is_mismatched l ≡ false → AreFaults (l ∷ []) [] nothing
+fine_link l wide unnamed badly mismatched = record {
+  too_wide = sym wide;
+  unsupported = none_line (λ (c : Cell). c.line) is_unsupported;
+  hierarchy = none_line (λ (c : Cell). c.line) is_module;
+  no_wire = one_line (λ (l : Link). l.line) is_unnamed l None false refl (sym unnamed);
+  bad_slice = one_line (λ (l : Link). l.line) is_badly_sliced l None false refl (sym badly);
+  mismatch = λ h. one_line (λ (l : Link). l.line) is_mismatched l None false refl (sym mismatched);
+  missing = none_line (λ (c : Cell). c.line) lacks_port;
+}
 
 abbrev pub connect_link : List NetWire → Connect → Link
 connect_link ws c = let l = shape ws c.left in let r = shape ws c.right in
@@ -299,17 +342,6 @@ unrefused f h =
     (line_unrefused _ f.bad_slice _ h.bad_slice
     (line_unrefused _ f.mismatch _ h.mismatch
     (line_unrefused _ f.missing None h.missing refl))))))
-
-abbrev pub together : Faults → Faults → Faults
-together f g = record {
-  too_wide = f.too_wide || g.too_wide;
-  unsupported = earlier_of f.unsupported g.unsupported;
-  hierarchy = earlier_of f.hierarchy g.hierarchy;
-  no_wire = earlier_of f.no_wire g.no_wire;
-  bad_slice = earlier_of f.bad_slice g.bad_slice;
-  mismatch = earlier_of f.mismatch g.mismatch;
-  missing = earlier_of f.missing g.missing;
-}
 
 pub parts_fine : (f g r : Faults) → r ≡ together f g → refusal_in r ≡ None → (refusal_in f ≡ None) × (refusal_in g ≡ None)
 parts_fine f g r e h =

@@ -1,5 +1,5 @@
 -- The least lines of what is wrong with the names, widths and ports of cells and connects.
-use Rattle.std.specs.Prelude.{◌≡◌, ℕ, Bool, true, false, List, [], ◌∷◌, map, filter, min, Option, Some, None}
+use Rattle.std.specs.Prelude.{◌≡◌, ℕ, Bool, true, false, not, ◌&&◌, ◌||◌, List, [], ◌∷◌, map, filter, min, Option, Some, None, is_none}
 use Rattle.std.specs.List.{list_any}
 use Rattle.circuit_types.specs.Nets.{Link, is_too_wide, is_unnamed, is_badly_sliced, is_mismatched, is_unsupported, is_module, lacks_port}
 use Rattle.circuit_types.specs.declared.tree.Cell.{Cell}
@@ -24,6 +24,32 @@ least_link test ls = least_of (map (λ l. l.line) (filter test ls))
 
 abbrev pub least_cell : (Cell → Bool) → List Cell → Option ℕ
 least_cell test cs = least_of (map (λ c. c.line) (filter test cs))
+
+-- nothing is wrong
+abbrev pub nothing : Faults
+nothing = record { too_wide = false; unsupported = None; hierarchy = None; no_wire = None; bad_slice = None; mismatch = None; missing = None }
+
+abbrev pub is_nothing : Faults → Bool
+is_nothing f =
+    (((((not f.too_wide && is_none f.unsupported) && is_none f.hierarchy) && is_none f.no_wire) && is_none f.bad_slice) && is_none f.mismatch)
+    && is_none f.missing
+
+-- what is wrong with two parts together
+abbrev pub together : Faults → Faults → Faults
+together f g = record {
+  too_wide = f.too_wide || g.too_wide;
+  unsupported = earlier_of f.unsupported g.unsupported;
+  hierarchy = earlier_of f.hierarchy g.hierarchy;
+  no_wire = earlier_of f.no_wire g.no_wire;
+  bad_slice = earlier_of f.bad_slice g.bad_slice;
+  mismatch = earlier_of f.mismatch g.mismatch;
+  missing = earlier_of f.missing g.missing;
+}
+
+-- what is wrong, where something may be
+abbrev pub faults_in : Option Faults → Faults
+faults_in None = nothing
+faults_in (Some f) = f
 
 -- The faults of these connects and these cells. Widths are told apart where no signal is too wide.
 pub record AreFaults (ls : List Link) (cs : List Cell) (f : Faults) : Type 0 where

@@ -79,7 +79,7 @@ impl Drivers {
 pub fn drivers_of(
     alloc: Global,
     wires: &Wires<'_>,
-    items: &[Item],
+    items: &[Item<'_>],
     ports: &Ports,
 ) -> Result<Vec<Driver>, Stop>
     requires ports { KnowsPorts wires.now.list.now (kept_cells items.now) ports.now }
@@ -106,7 +106,7 @@ pub fn drivers_of(
 fn drive_all(
     alloc: Global,
     wires: &Wires<'_>,
-    items: &[Item],
+    items: &[Item<'_>],
     ports: &Ports,
     drivers: &mut Drivers,
 ) -> Result<(), NoMemory>
@@ -132,7 +132,7 @@ fn drive_all(
 }
 
 /// Whether the first line that is refused is seen to be the least one. It is looked at once, when it is new.
-fn is_least(before: Option<u32>, refused: Option<u32>, later: &[Item]) -> bool
+fn is_least(before: Option<u32>, refused: Option<u32>, later: &[Item<'_>]) -> bool
     ensures { result ≡ true → NoneBefore refused later.now }
 {
     if before.is_some() {
@@ -144,14 +144,14 @@ fn is_least(before: Option<u32>, refused: Option<u32>, later: &[Item]) -> bool
     }
 }
 
-fn all_from(items: &[Item], line: u32) -> bool
+fn all_from(items: &[Item<'_>], line: u32) -> bool
     ensures { result ≡ list_all (is_from_line line) items.now }
 {
     items.iter().all(|item| is_from(item, line))
 }
 
 /// Whether each line of the item's connects is this one or a later one.
-fn is_from(item: &Item, line: u32) -> bool
+fn is_from(item: &Item<'_>, line: u32) -> bool
     ensures { result ≡ is_from_line line item.now }
 {
     match item {
@@ -161,7 +161,7 @@ fn is_from(item: &Item, line: u32) -> bool
     }
 }
 
-fn ports_from(connects: &[PortConnect], line: u32) -> bool
+fn ports_from(connects: &[PortConnect<'_>], line: u32) -> bool
     ensures { result ≡ list_all (λ p. nat_le line p.line) connects.now }
 {
     connects.iter().all(|connect| line <= connect.line)
@@ -171,7 +171,7 @@ fn ports_from(connects: &[PortConnect], line: u32) -> bool
 fn drive_item(
     alloc: Global,
     wires: &Wires<'_>,
-    item: &Item,
+    item: &Item<'_>,
     ports: &Ports,
     number: u32,
     drivers: &mut Drivers,
@@ -208,7 +208,7 @@ fn drive_item(
 fn drive_connect(
     alloc: Global,
     wires: &Wires<'_>,
-    connect: &Connect,
+    connect: &Connect<'_>,
     drivers: &mut Drivers,
 ) -> Result<(), NoMemory>
     requires good { IsGoodConnect wires.now.list.now connect.now }

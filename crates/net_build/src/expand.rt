@@ -15,7 +15,7 @@ use std::alloc::Global;
 pub fn bits_of(
     alloc: Global,
     wires: &Wires<'_>,
-    signal: &Signal,
+    signal: &Signal<'_>,
 ) -> Result<Vec<SignalBit>, NoMemory>
     requires { IsGood (shape wires.now.list.now signal.now) }
     ensures { IfOk result (λ bits. bits.items ≡ signal_bits wires.now.list.now signal.now) }
@@ -28,7 +28,7 @@ pub fn bits_of(
 /// Puts all bits of a signal behind others.
 pub fn push_signal(
     wires: &Wires<'_>,
-    signal: &Signal,
+    signal: &Signal<'_>,
     bits: &mut Vec<SignalBit>,
 ) -> Result<(), NoMemory>
     requires { IsGood (shape wires.now.list.now signal.now) }
@@ -49,7 +49,7 @@ pub fn push_signal(
 /// Puts some bits of a signal behind others: so many, from the place on.
 pub fn push_bits(
     wires: &Wires<'_>,
-    signal: &Signal,
+    signal: &Signal<'_>,
     low: u32,
     count: u32,
     bits: &mut Vec<SignalBit>,
@@ -117,7 +117,7 @@ fn push_nets(first: u32, count: u32, bits: &mut Vec<SignalBit>) -> Result<(), No
 }
 
 /// How wide a signal is.
-pub fn width_of(wires: &Wires<'_>, signal: &Signal) -> u32
+pub fn width_of(wires: &Wires<'_>, signal: &Signal<'_>) -> u32
     requires { IsGood (shape wires.now.list.now signal.now) }
     ensures { result ≡ (shape wires.now.list.now signal.now).width }
 {

@@ -5,12 +5,12 @@ ghost use Rattle.circuit_types.specs.Due.{IsClear, IsDue};
 ghost use Rattle.circuit_types.specs.Items.{net_wires as net_wires_of, cells, kept_cells, bit_count};
 ghost use Rattle.circuit_types.specs.Nets.{links, most_bits, most_cells};
 ghost use Rattle.circuit_types.specs.declared.tree.Item.{Item as AnyItem};
-ghost use Rattle.net_build.specs.Faults.{AreFaults, refusal_in};
+ghost use Rattle.net_build.specs.Faults.{faults_in, AreFaults, refusal_in};
 ghost use Rattle.net_build.specs.Form.{form_causes};
 ghost use Rattle.net_build.specs.Ports.{KnowsPorts};
 ghost use Rattle.net_build.specs.Stops.{IfRefused};
 
-use crate::faults::{Faults, NONE, both, cell_count, item_faults, kind_in, refusal_of};
+use crate::faults::{Faults, both, cell_count, item_faults, kind_in, refusal_of};
 use crate::ports::Ports;
 use crate::wires::{Wires, net_wires};
 use circuit_types::{Item, NetWire, NoMemory, Refusal, Stop, Which};
@@ -21,7 +21,7 @@ const MOST_CELLS: usize = 1_048_576;
 
 /// The wires of a module with the numbers of their bits, or the refusal that is due where it lies in the limits on
 /// bits and cells.
-pub fn limited_wires(alloc: Global, items: &[Item]) -> Result<Vec<NetWire>, Stop>
+pub fn limited_wires(alloc: Global, items: &[Item<'_>]) -> Result<Vec<NetWire>, Stop>
     ensures wires { IfOk result (λ ws. ws.items ≡ net_wires_of items.now) }
     ensures within { IfOk result (λ ws. All (λ w. w.first + w.width ≤ most_bits) ws.items) }
     ensures few_bits { IfOk result (λ ws. bit_count ws.items ≤ most_bits) }
@@ -37,7 +37,7 @@ pub fn limited_wires(alloc: Global, items: &[Item]) -> Result<Vec<NetWire>, Stop
 
 /// The kept cells of a module with the bits on their ports, or the refusal that is due where it lies in the names,
 /// widths or ports.
-pub fn checked_ports(alloc: Global, wires: &Wires<'_>, items: &[Item]) -> Result<Ports, Stop>
+pub fn checked_ports(alloc: Global, wires: &Wires<'_>, items: &[Item<'_>]) -> Result<Ports, Stop>
     requires wires { wires.now.list.now ≡ net_wires_of items.now }
     requires few_bits { bit_count wires.now.list.now ≤ most_bits }
     requires few_cells { length (cells items.now) ≤ most_cells }
@@ -54,12 +54,17 @@ pub fn checked_ports(alloc: Global, wires: &Wires<'_>, items: &[Item]) -> Result
 }
 
 /// What is wrong with all items. As long as nothing is, the kept cells are put.
-fn check_all(wires: &Wires<'_>, items: &[Item], ports: &mut Ports) -> Result<Faults, NoMemory>
+fn check_all(
+    wires: &Wires<'_>,
+    items: &[Item<'_>],
+    ports: &mut Ports,
+) -> Result<Option<Faults>, NoMemory>
     requires { ports.old.cells.items ≡ [] }
-    ensures faults { IfOk result (AreFaults (links wires.now.list.now items.now) (kept_cells items.now)) }
-    ensures ports { IfOk result (λ f. refusal_in f ≡ None → KnowsPorts wires.now.list.now (kept_cells items.now) ports.new) }
+    ensures faults { IfOk result (λ f. AreFaults (links wires.now.list.now items.now) (kept_cells items.now) (faults_in f)) }
+    ensures ports { IfOk result (λ f. refusal_in (faults_in f) ≡ None
+        → KnowsPorts wires.now.list.now (kept_cells items.now) ports.new) }
 {
-    let mut faults = NONE;
+    let mut faults = None;
     for item in items {
         faults = check_item(wires, item, faults, ports)?;
     }
@@ -71,14 +76,16 @@ fn check_all(wires: &Wires<'_>, items: &[Item], ports: &mut Ports) -> Result<Fau
 /// a cell that is put has one bit.
 fn check_item(
     wires: &Wires<'_>,
-    item: &Item,
-    before: Faults,
+    item: &Item<'_>,
+    before: Option<Faults>,
     ports: &mut Ports,
-) -> Result<Faults, NoMemory>
-    ensures faults { IfOk result (λ f. (xs : List AnyItem) → AreFaults (links wires.now.list.now xs) (kept_cells xs) before
-        → AreFaults (links wires.now.list.now (xs ++ item.now ∷ [])) (kept_cells (xs ++ item.now ∷ [])) f) }
-    ensures ports { IfOk result (λ f. (xs : List AnyItem) → (refusal_in before ≡ None → KnowsPorts wires.now.list.now (kept_cells xs) ports.old)
-        → refusal_in f ≡ None → KnowsPorts wires.now.list.now (kept_cells (xs ++ item.now ∷ [])) ports.new) }
+) -> Result<Option<Faults>, NoMemory>
+    ensures faults { IfOk result (λ f. (xs : List AnyItem)
+        → AreFaults (links wires.now.list.now xs) (kept_cells xs) (faults_in before)
+        → AreFaults (links wires.now.list.now (xs ++ item.now ∷ [])) (kept_cells (xs ++ item.now ∷ [])) (faults_in f)) }
+    ensures ports { IfOk result (λ f. (xs : List AnyItem)
+        → (refusal_in (faults_in before) ≡ None → KnowsPorts wires.now.list.now (kept_cells xs) ports.old)
+        → refusal_in (faults_in f) ≡ None → KnowsPorts wires.now.list.now (kept_cells (xs ++ item.now ∷ [])) ports.new) }
 {
     let kind = kind_in(item);
     let faults = both(before, item_faults(wires, item, kind));

@@ -22,7 +22,7 @@ use std::alloc::Global;
 pub fn net_sources(
     alloc: Global,
     wires: &Wires<'_>,
-    items: &[Item],
+    items: &[Item<'_>],
     ports: &Ports,
 ) -> Result<Vec<Source>, Stop>
     requires ports { KnowsPorts wires.now.list.now (kept_cells items.now) ports.now }

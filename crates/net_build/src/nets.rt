@@ -25,7 +25,7 @@ use std::alloc::Global;
 /// The nets of the module that is verified, or the refusal that is due.
 ///
 /// No connect is written out bit by bit before all limits, names, widths and ports are looked at.
-pub fn build(alloc: Global, tree: &Tree) -> Result<Nets, Stop>
+pub fn build(alloc: Global, tree: &Tree<'_>) -> Result<Nets, Stop>
     requires { IsSome (top_of tree.now) }
     // What is answered holds of the module.
     ensures nets { IfOk result (λ nets. AreNets (top_items_of tree.now) nets) }
@@ -44,27 +44,27 @@ pub fn build(alloc: Global, tree: &Tree) -> Result<Nets, Stop>
 }
 
 /// The statements of the module that is verified.
-fn top_items(tree: &Tree) -> &[Item]
+fn top_items<'t, 'a>(tree: &'t Tree<'a>) -> &'t [Item<'a>]
     requires { IsSome (top_of tree.now) }
     ensures { result.now ≡ top_items_of tree.now }
 {
     match top(tree) {
-        None => &[],
+        None => Default::default(),
         Some(place) => items_at(tree.modules.as_slice(), place),
     }
 }
 
-fn items_at(modules: &[Module], place: usize) -> &[Item]
+fn items_at<'t, 'a>(modules: &'t [Module<'a>], place: usize) -> &'t [Item<'a>]
     ensures { result.now ≡ items_of (slice_get modules.now place) }
 {
     match modules.get(place) {
-        None => &[],
+        None => Default::default(),
         Some(unit) => unit.items.as_slice(),
     }
 }
 
 /// The nets of a module, or the refusal that is due.
-fn nets_of(alloc: Global, items: &[Item]) -> Result<Nets, Stop>
+fn nets_of(alloc: Global, items: &[Item<'_>]) -> Result<Nets, Stop>
     ensures nets { IfOk result (IsAccepted items.now) }
     ensures refused { IfErr result (λ stop. IfRefused stop (IsDue (net_causes items.now))) }
 {
@@ -82,7 +82,7 @@ fn nets_of(alloc: Global, items: &[Item]) -> Result<Nets, Stop>
 fn sources_and_cells(
     alloc: Global,
     list: &[NetWire],
-    items: &[Item],
+    items: &[Item<'_>],
 ) -> Result<(Vec<Source>, Vec<NetCell>), Stop>
     requires wires { list.now ≡ net_wires items.now }
     requires within { All (λ w. w.first + w.width ≤ most_bits) list.now }

@@ -100,7 +100,7 @@ impl Ports {
     pub fn push_item(
         &mut self,
         wires: &Wires<'_>,
-        item: &Item,
+        item: &Item<'_>,
         kind: Option<CellKind>,
     ) -> Result<(), NoMemory>
         requires good { IsGoodItem wires.now.list.now item.now }
@@ -124,7 +124,7 @@ impl Ports {
     fn push_cell(
         &mut self,
         wires: &Wires<'_>,
-        cell: &Cell,
+        cell: &Cell<'_>,
         kind: Option<CellKind>,
     ) -> Result<(), NoMemory>
         requires good { AreGoodPorts wires.now.list.now cell.now.connects }
@@ -153,7 +153,7 @@ impl Ports {
 /// the bits of one port.
 fn push_inputs(
     wires: &Wires<'_>,
-    cell: &Cell,
+    cell: &Cell<'_>,
     kind: Option<CellKind>,
     bits: &mut Vec<SignalBit>,
     reads: &mut Vec<PortBit>,
@@ -184,7 +184,7 @@ fn input_letters(kind: Option<CellKind>) -> &'static [u8]
 }
 
 /// The connect of the output port of a cell of that kind.
-fn output_connect(cell: &Cell, kind: Option<CellKind>) -> Option<&PortConnect>
+fn output_connect<'c, 'a>(cell: &'c Cell<'a>, kind: Option<CellKind>) -> Option<&'c PortConnect<'a>>
     ensures { option_copied result ≡ output_connect_of cell.now kind }
 {
     match kind {
@@ -196,7 +196,7 @@ fn output_connect(cell: &Cell, kind: Option<CellKind>) -> Option<&PortConnect>
 /// Puts what the input port of that letter reads behind others.
 fn push_port(
     wires: &Wires<'_>,
-    cell: &Cell,
+    cell: &Cell<'_>,
     letter: u8,
     bits: &mut Vec<SignalBit>,
     reads: &mut Vec<PortBit>,
@@ -214,7 +214,7 @@ fn push_port(
 /// Puts what is read through a connect behind others.
 fn push_reads(
     wires: &Wires<'_>,
-    connect: &PortConnect,
+    connect: &PortConnect<'_>,
     bits: &mut Vec<SignalBit>,
     reads: &mut Vec<PortBit>,
 ) -> Result<(), NoMemory>
@@ -236,7 +236,7 @@ fn push_reads(
 /// Puts the bits on the output of a cell of that kind behind others; answers the line of their connect.
 fn push_output(
     wires: &Wires<'_>,
-    cell: &Cell,
+    cell: &Cell<'_>,
     kind: Option<CellKind>,
     outputs: &mut Vec<SignalBit>,
 ) -> Result<u32, NoMemory>

@@ -28,7 +28,7 @@ pub struct Shape {
 }
 
 /// What a signal is like.
-pub fn shape_of(wires: &Wires<'_>, signal: &Signal) -> Shape
+pub fn shape_of(wires: &Wires<'_>, signal: &Signal<'_>) -> Shape
     ensures { result ≡ capped (shape wires.now.list.now signal.now) }
 {
     match signal {

@@ -2,8 +2,8 @@
 use super::*;
 use cell_kinds::{CellKind, GateKind};
 use circuit_types::{
-    BitValue, Bits, Cell, Connect, Item, Module, NetCell, Nets, Pin, Port, PortConnect, Refusal,
-    Signal, Source, Stop, Tree, Value, Which, Wire, top,
+    BitValue, Bits, Cell, Connect, Item, Module, Name, NetCell, Nets, Pin, Port, PortConnect,
+    Refusal, Signal, Source, Stop, Tree, Value, Which, Wire, top,
 };
 use sequences::Sequence;
 use sqlite_items::{Boxed, Items};
@@ -29,12 +29,8 @@ enum More {
     Line(u32),
 }
 
-fn bytes(alloc: Global, text: &[u8]) -> Result<Sequence<u8>, AllocError> {
-    Ok(Sequence::from_vec(Vec::from_slice(alloc, text)?))
-}
-
 /// A signal of one bit.
-fn bit(alloc: Global, written: u8) -> Result<Signal, AllocError> {
+fn bit(alloc: Global, written: u8) -> Result<Signal<'static>, AllocError> {
     let bit = match written {
         b'0' => BitValue::Zero,
         b'1' => BitValue::One,
@@ -47,24 +43,24 @@ fn bit(alloc: Global, written: u8) -> Result<Signal, AllocError> {
 }
 
 /// A signal of one place of a wire.
-fn place(alloc: Global, name: &[u8], place: u32) -> Result<Signal, Fail> {
+fn place(alloc: Global, name: &'static [u8], place: u32) -> Result<Signal<'static>, Fail> {
     Ok(Signal::Slice {
-        of: Boxed::new(alloc, Signal::Wire(bytes(alloc, name)?)).map_err(AllocError::from)?,
+        of: Boxed::new(alloc, Signal::Wire(Name::in_text(name))).map_err(AllocError::from)?,
         high: place,
         low: place,
     })
 }
 
 /// A signal that is a wire's name, or, with a digit behind a comma, one of its places; or a bit behind `#`.
-fn signal(alloc: Global, text: &[u8]) -> Result<Signal, Fail> {
+fn signal(alloc: Global, text: &'static [u8]) -> Result<Signal<'static>, Fail> {
     match text {
         [name @ .., b',', digit] => place(alloc, name, u32::from(digit.wrapping_sub(b'0'))),
         [b'#', written] => Ok(bit(alloc, *written)?),
-        _ => Ok(Signal::Wire(bytes(alloc, text)?)),
+        _ => Ok(Signal::Wire(Name::in_text(text))),
     }
 }
 
-fn join(alloc: Global, texts: &[&[u8]]) -> Result<Signal, Fail> {
+fn join(alloc: Global, texts: Signals) -> Result<Signal<'static>, Fail> {
     let mut parts = Items::new(alloc);
     for text in texts {
         parts.push(signal(alloc, text)?).map_err(AllocError::from)?;
@@ -72,32 +68,36 @@ fn join(alloc: Global, texts: &[&[u8]]) -> Result<Signal, Fail> {
     Ok(Signal::Join(parts))
 }
 
-fn wire(alloc: Global, line: u32, name: &[u8], width: u32, port: Port) -> Result<Item, AllocError> {
-    Ok(Item::Wire(Wire {
+fn wire(alloc: Global, line: u32, name: &'static [u8], width: u32, port: Port) -> Item<'static> {
+    Item::Wire(Wire {
         line,
-        name: bytes(alloc, name)?,
+        name: Name::in_text(name),
         attributes: Sequence::from_vec(Vec::new(alloc)),
         width,
         offset: 0,
         port,
         upto: false,
         signed: false,
-    }))
+    })
 }
 
-fn connect(line: u32, left: Signal, right: Signal) -> Item {
+fn connect(line: u32, left: Signal<'static>, right: Signal<'static>) -> Item<'static> {
     Item::Connect(Connect { line, left, right })
 }
 
 /// The connects of a cell at this line, on the lines behind it.
-fn port_connects(alloc: Global, line: u32, texts: Connects) -> Result<Vec<PortConnect>, Fail> {
+fn port_connects(
+    alloc: Global,
+    line: u32,
+    texts: Connects,
+) -> Result<Vec<PortConnect<'static>>, Fail> {
     let mut line = line;
     let mut connects = Vec::new(alloc);
     for (letter, text) in texts {
         line = line.wrapping_add(1);
         let connect = PortConnect {
             line,
-            port: bytes(alloc, &[b'\\', *letter])?,
+            port: Name::made(Sequence::from_vec(vec![in alloc; b'\\', *letter]?)),
             signal: signal(alloc, text)?,
         };
         connects.push(connect).map_err(AllocError::from)?;
@@ -105,12 +105,17 @@ fn port_connects(alloc: Global, line: u32, texts: Connects) -> Result<Vec<PortCo
     Ok(connects)
 }
 
-fn cell(alloc: Global, line: u32, kind: &[u8], texts: Connects) -> Result<Item, Fail> {
+fn cell(
+    alloc: Global,
+    line: u32,
+    kind: &'static [u8],
+    texts: Connects,
+) -> Result<Item<'static>, Fail> {
     let connects = port_connects(alloc, line, texts)?;
     Ok(Item::Cell(Cell {
         line,
-        kind: bytes(alloc, kind)?,
-        name: bytes(alloc, b"$c")?,
+        kind: Name::in_text(kind),
+        name: Name::in_text(b"$c".as_slice()),
         attributes: Sequence::from_vec(Vec::new(alloc)),
         parameters: Sequence::from_vec(Vec::new(alloc)),
         connects: Sequence::from_vec(connects),
@@ -118,9 +123,9 @@ fn cell(alloc: Global, line: u32, kind: &[u8], texts: Connects) -> Result<Item, 
 }
 
 /// The statement at this line, if there is one.
-fn item(alloc: Global, line: u32, statement: More) -> Result<Option<Item>, Fail> {
+fn item(alloc: Global, line: u32, statement: More) -> Result<Option<Item<'static>>, Fail> {
     let item = match statement {
-        More::Wire(name, width, port) => wire(alloc, line, name, width, port)?,
+        More::Wire(name, width, port) => wire(alloc, line, name, width, port),
         More::Connect(left, right) => connect(line, signal(alloc, left)?, signal(alloc, right)?),
         More::Joins(left, right) => connect(line, join(alloc, left)?, join(alloc, right)?),
         More::Cell(kind, texts) => cell(alloc, line, kind, texts)?,
@@ -142,7 +147,12 @@ fn line_behind(line: u32, statement: More) -> u32 {
 }
 
 /// Statements from a line on, behind others; answers the line of the next one.
-fn push(alloc: Global, line: u32, statements: &[More], items: &mut Vec<Item>) -> Result<u32, Fail> {
+fn push(
+    alloc: Global,
+    line: u32,
+    statements: &[More],
+    items: &mut Vec<Item<'static>>,
+) -> Result<u32, Fail> {
     let mut line = line;
     for statement in statements {
         if let Some(item) = item(alloc, line, *statement)? {
@@ -154,10 +164,10 @@ fn push(alloc: Global, line: u32, statements: &[More], items: &mut Vec<Item>) ->
 }
 
 /// The tree of one module with these statements.
-fn tree(alloc: Global, items: Vec<Item>) -> Result<Tree, AllocError> {
+fn tree(alloc: Global, items: Vec<Item<'_>>) -> Result<Tree<'_>, AllocError> {
     let unit = Module {
         line: 5,
-        name: bytes(alloc, b"\\m")?,
+        name: Name::in_text(b"\\m".as_slice()),
         attributes: Sequence::from_vec(Vec::new(alloc)),
         items: Sequence::from_vec(items),
     };
@@ -167,7 +177,7 @@ fn tree(alloc: Global, items: Vec<Item>) -> Result<Tree, AllocError> {
 }
 
 /// What is built of the module with these statements.
-fn built(alloc: Global, items: Vec<Item>) -> Result<Result<Nets, Refusal>, Fail> {
+fn built(alloc: Global, items: Vec<Item<'_>>) -> Result<Result<Nets, Refusal>, Fail> {
     let tree = tree(alloc, items)?;
     if top(&tree).is_none() {
         return Err(Fail::from("no top module"));

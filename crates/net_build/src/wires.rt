@@ -63,11 +63,12 @@ fn span_of(wire: &NetWire) -> Span
 }
 
 /// The wires of a module with the numbers of their bits.
-pub fn net_wires(alloc: Global, items: &[Item]) -> Result<Vec<NetWire>, Stop>
+pub fn net_wires(alloc: Global, items: &[Item<'_>]) -> Result<Vec<NetWire>, Stop>
     ensures wires { IfOk result (λ ws. ws.items ≡ net_wires_of items.now) }
     ensures few { IfOk result (λ ws. bit_count ws.items ≤ most_bits) }
     ensures within { IfOk result (λ ws. All (λ w. w.first + w.width ≤ most_bits) ws.items) }
-    ensures many { IfErr result (λ stop. IfRefused stop (λ r. (r ≡ Limit NetBits) × (most_bits < bit_count (net_wires_of items.now)))) }
+    ensures many { IfErr result (λ stop. IfRefused stop (λ r. (r ≡ Limit NetBits)
+        × (most_bits < bit_count (net_wires_of items.now)))) }
 {
     let mut wires = Vec::new(alloc);
     let mut first = 0;
@@ -78,12 +79,18 @@ pub fn net_wires(alloc: Global, items: &[Item]) -> Result<Vec<NetWire>, Stop>
 }
 
 /// Puts the wire that the item may be behind others; answers how many bits all have.
-fn push_wire(alloc: Global, item: &Item, first: u32, wires: &mut Vec<NetWire>) -> Result<u32, Stop>
+fn push_wire(
+    alloc: Global,
+    item: &Item<'_>,
+    first: u32,
+    wires: &mut Vec<NetWire>,
+) -> Result<u32, Stop>
     requires { first ≤ most_bits }
     ensures wires { IfOk result (λ next. wires.new.items ≡ wires.old.items ++ numbered first (wires_among (item.now ∷ []))) }
     ensures next { IfOk result (λ next. next ≡ first + bit_count (numbered first (wires_among (item.now ∷ [])))) }
     ensures few { IfOk result (λ next. next ≤ most_bits) }
-    ensures many { IfErr result (λ stop. IfRefused stop (λ r. (r ≡ Limit NetBits) × (most_bits < first + bit_count (numbered first (wires_among (item.now ∷ [])))))) }
+    ensures many { IfErr result (λ stop. IfRefused stop (λ r. (r ≡ Limit NetBits)
+        × (most_bits < first + bit_count (numbered first (wires_among (item.now ∷ [])))))) }
 {
     let Item::Wire(wire) = item else {
         return Ok(first);
@@ -95,8 +102,14 @@ fn push_wire(alloc: Global, item: &Item, first: u32, wires: &mut Vec<NetWire>) -
     Ok(first + wire.width)
 }
 
-fn net_wire(alloc: Global, wire: &Wire, first: u32) -> Result<NetWire, NoMemory>
-    ensures { IfOk result (λ w. w ≡ record { line = wire.now.line; name = wire.now.name; first = first; width = wire.now.width; port = wire.now.port }) }
+fn net_wire(alloc: Global, wire: &Wire<'_>, first: u32) -> Result<NetWire, NoMemory>
+    ensures { IfOk result (λ w. w ≡ record {
+      line = wire.now.line;
+      name = wire.now.name;
+      first = first;
+      width = wire.now.width;
+      port = wire.now.port;
+    }) }
 {
     Ok(NetWire {
         line: wire.line,

@@ -10,7 +10,7 @@ use crate::value::push_word;
 use circuit_types::{Cell, Connect, NoMemory, Parameter, PortConnect};
 
 /// Puts the line of a module's connect behind the text.
-pub fn push_connect(text: &mut Vec<u8>, connect: &Connect) -> Result<(), NoMemory>
+pub fn push_connect(text: &mut Vec<u8>, connect: &Connect<'_>) -> Result<(), NoMemory>
     ensures { OnOk result (text.new.items ≡ text.old.items ++ connect_line connect.now) }
 {
     text.extend_from_slice(b"  connect")?;
@@ -22,7 +22,7 @@ pub fn push_connect(text: &mut Vec<u8>, connect: &Connect) -> Result<(), NoMemor
 fn push_port_connect(
     text: &mut Vec<u8>,
     indent: &[u8],
-    connect: &PortConnect,
+    connect: &PortConnect<'_>,
 ) -> Result<(), NoMemory>
     ensures { OnOk result (text.new.items ≡ text.old.items ++ port_connect_line indent.now connect.now) }
 {
@@ -36,7 +36,7 @@ fn push_port_connect(
 fn push_parameters(
     text: &mut Vec<u8>,
     indent: &[u8],
-    parameters: &[Parameter],
+    parameters: &[Parameter<'_>],
 ) -> Result<(), NoMemory>
     ensures { OnOk result (text.new.items ≡ text.old.items ++ flat_map (parameter_line indent.now) parameters.now) }
 {
@@ -49,7 +49,7 @@ fn push_parameters(
 fn push_connects(
     text: &mut Vec<u8>,
     indent: &[u8],
-    connects: &[PortConnect],
+    connects: &[PortConnect<'_>],
 ) -> Result<(), NoMemory>
     ensures { OnOk result (text.new.items ≡ text.old.items ++ flat_map (port_connect_line indent.now) connects.now) }
 {
@@ -60,7 +60,7 @@ fn push_connects(
 }
 
 /// Puts what stands inside a cell behind the text.
-fn push_inside(text: &mut Vec<u8>, cell: &Cell) -> Result<(), NoMemory>
+fn push_inside(text: &mut Vec<u8>, cell: &Cell<'_>) -> Result<(), NoMemory>
     ensures { OnOk result (text.new.items ≡ text.old.items ++ inside_lines cell.now) }
 {
     push_parameters(text, b"    ", cell.parameters.as_slice())?;
@@ -68,7 +68,7 @@ fn push_inside(text: &mut Vec<u8>, cell: &Cell) -> Result<(), NoMemory>
 }
 
 /// Puts the first line of a cell behind the text.
-fn push_cell_line(text: &mut Vec<u8>, cell: &Cell) -> Result<(), NoMemory>
+fn push_cell_line(text: &mut Vec<u8>, cell: &Cell<'_>) -> Result<(), NoMemory>
     ensures { OnOk result (text.new.items ≡ text.old.items ++ cell_line cell.now) }
 {
     text.extend_from_slice(b"  cell")?;
@@ -78,7 +78,7 @@ fn push_cell_line(text: &mut Vec<u8>, cell: &Cell) -> Result<(), NoMemory>
 }
 
 /// Puts the lines of a cell behind the text.
-pub fn push_cell(text: &mut Vec<u8>, cell: &Cell) -> Result<(), NoMemory>
+pub fn push_cell(text: &mut Vec<u8>, cell: &Cell<'_>) -> Result<(), NoMemory>
     ensures { OnOk result (text.new.items ≡ text.old.items ++ cell_lines cell.now) }
 {
     push_cell_line(text, cell)?;

@@ -8,7 +8,11 @@ use crate::value::{push_value, push_word};
 use circuit_types::{Attribute, NoMemory, Parameter, ParameterForm, Value};
 
 /// Puts an attribute's line behind the text.
-fn push_attribute(text: &mut Vec<u8>, indent: &[u8], attribute: &Attribute) -> Result<(), NoMemory>
+fn push_attribute(
+    text: &mut Vec<u8>,
+    indent: &[u8],
+    attribute: &Attribute<'_>,
+) -> Result<(), NoMemory>
     ensures { OnOk result (text.new.items ≡ text.old.items ++ attribute_line indent.now attribute.now) }
 {
     text.extend_from_slice(indent)?;
@@ -22,7 +26,7 @@ fn push_attribute(text: &mut Vec<u8>, indent: &[u8], attribute: &Attribute) -> R
 pub fn push_attributes(
     text: &mut Vec<u8>,
     indent: &[u8],
-    attributes: &[Attribute],
+    attributes: &[Attribute<'_>],
 ) -> Result<(), NoMemory>
     ensures { OnOk result (text.new.items ≡ text.old.items ++ attribute_lines indent.now attributes.now) }
 {
@@ -55,7 +59,7 @@ fn push_optional(text: &mut Vec<u8>, value: &Option<Value>) -> Result<(), NoMemo
 pub fn push_parameter(
     text: &mut Vec<u8>,
     indent: &[u8],
-    parameter: &Parameter,
+    parameter: &Parameter<'_>,
 ) -> Result<(), NoMemory>
     ensures { OnOk result (text.new.items ≡ text.old.items ++ parameter_line indent.now parameter.now) }
 {

@@ -11,7 +11,7 @@ use crate::wire::push_wire;
 use circuit_types::{Item, Module, NoMemory, Tree};
 use std::alloc::Global;
 
-fn push_item(text: &mut Vec<u8>, item: &Item) -> Result<(), NoMemory>
+fn push_item(text: &mut Vec<u8>, item: &Item<'_>) -> Result<(), NoMemory>
     ensures { OnOk result (text.new.items ≡ text.old.items ++ item_lines item.now) }
 {
     match item {
@@ -28,7 +28,7 @@ fn push_item(text: &mut Vec<u8>, item: &Item) -> Result<(), NoMemory>
     }
 }
 
-fn push_items(text: &mut Vec<u8>, items: &[Item]) -> Result<(), NoMemory>
+fn push_items(text: &mut Vec<u8>, items: &[Item<'_>]) -> Result<(), NoMemory>
     ensures { OnOk result (text.new.items ≡ text.old.items ++ flat_map item_lines items.now) }
 {
     for item in items {
@@ -45,7 +45,7 @@ fn push_module_line(text: &mut Vec<u8>, name: &[u8]) -> Result<(), NoMemory>
     text.extend_from_slice(b"\n")
 }
 
-fn push_module(text: &mut Vec<u8>, unit: &Module) -> Result<(), NoMemory>
+fn push_module(text: &mut Vec<u8>, unit: &Module<'_>) -> Result<(), NoMemory>
     ensures { OnOk result (text.new.items ≡ text.old.items ++ module_lines unit.now) }
 {
     push_attributes(text, b"", unit.attributes.as_slice())?;
@@ -56,7 +56,7 @@ fn push_module(text: &mut Vec<u8>, unit: &Module) -> Result<(), NoMemory>
 
 /// The text of a tree. It goes as deep as the tree's signals nest, which is at most 64 deep in a printable one.
 #[tactic(auto, unfolding(crate::specs::Printed::printed))]
-pub fn print_tree(alloc: Global, tree: &Tree) -> Result<Vec<u8>, NoMemory>
+pub fn print_tree(alloc: Global, tree: &Tree<'_>) -> Result<Vec<u8>, NoMemory>
     ensures { IfOk result (λ text. text.items ≡ printed tree.now) }
 {
     let mut text = Vec::new(alloc);

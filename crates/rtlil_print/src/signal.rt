@@ -29,7 +29,7 @@ fn push_places(text: &mut Vec<u8>, high: u32, low: u32) -> Result<(), NoMemory>
 }
 
 /// Puts the pieces of a signal behind the text, each after a space. It calls itself as deep as the signal nests.
-pub fn push_signal(text: &mut Vec<u8>, signal: &Signal) -> Result<(), NoMemory>
+pub fn push_signal(text: &mut Vec<u8>, signal: &Signal<'_>) -> Result<(), NoMemory>
     ensures { OnOk result (text.new.items ≡ text.old.items ++ spaced (pieces_of signal.now)) }
 {
     match signal {

@@ -53,7 +53,7 @@ fn push_if(text: &mut Vec<u8>, stands: bool, word: &[u8]) -> Result<(), NoMemory
 }
 
 /// Puts the options of a wire behind the text, each after a space.
-fn push_options(text: &mut Vec<u8>, wire: &Wire) -> Result<(), NoMemory>
+fn push_options(text: &mut Vec<u8>, wire: &Wire<'_>) -> Result<(), NoMemory>
     ensures { OnOk result (text.new.items ≡ text.old.items ++ options_spaced (wire_options wire.now)) }
 {
     push_width(text, wire.width)?;
@@ -64,7 +64,7 @@ fn push_options(text: &mut Vec<u8>, wire: &Wire) -> Result<(), NoMemory>
 }
 
 /// Puts the line of a wire behind the text.
-pub fn push_wire(text: &mut Vec<u8>, wire: &Wire) -> Result<(), NoMemory>
+pub fn push_wire(text: &mut Vec<u8>, wire: &Wire<'_>) -> Result<(), NoMemory>
     ensures { OnOk result (text.new.items ≡ text.old.items ++ wire_line wire.now) }
 {
     text.extend_from_slice(b"  wire")?;

@@ -1,38 +1,64 @@
--- The next line is taken.
-use Rattle.std.proofs.Common.{◌≡◌, ℕ, List, [], ◌∷◌, ◌++◌, length, map, refl, ap, ◌∙◌, sym, Some, None, true, false, nat_eq, Bor}
-use Rattle.std.proofs.lemmas.List.{nil_from_length}
-use Rattle.std.proofs.lemmas.Bool.{eqb-true}
+-- The next line of a part is taken.
+use Rattle.std.proofs.Common.{◌≡◌, ℕ, ◌+◌, ◌-◌, ◌<◌, ◌≤◌, zero, suc, List, [], ◌∷◌, ◌++◌, length, get_or, take, drop, map, min, refl, ap, ◌∙◌, sym, arith, ⊎_elim}
+use Rattle.std.specs.List.{prefix_len, slice_range}
+use Rattle.std.proofs.lemmas.Bool.{cases_lt}
+use Rattle.std.proofs.lemmas.List.{take_all, drop_all, drop_more, drop_min, drop-drop}
 use Rattle.rtlil_lex.specs.declared.token.Token.{Token}
-use Rattle.rtlil_tree.specs.declared.line.Line.{Line}
-use Rattle.rtlil_tree.specs.declared.line.Lines.{Lines}
+use Rattle.rtlil_tree.specs.declared.part.Part.{Part}
 use Rattle.rtlil_tree.specs.Lines as text
 use Rattle.rtlil_tree.specs.Lines.{spelled, line_of, lines_of}
-use Rattle.rtlil_tree.specs.Cursor.{number_of, line_view, left_of, IsTaken}
+use Rattle.rtlil_tree.specs.Parts.{moved}
+use Rattle.rtlil_tree.specs.Cursor.{is_inner, left_in}
+use Rattle.rtlil_tree.proofs.LineLemmas.{lines_cut, lines_whole}
 
-some_line : (bytes : List ℕ) (ts : List Token) → false ≡ nat_eq (length ts) 0 → line_of bytes ts ≡ record { number = number_of ts; tokens = map (spelled bytes) ts } ∷ []
-some_line bytes [] e = absurd cc
-some_line bytes (t ∷ ts) e = refl
+-- the tokens before the first end of line are a line, which may have none, and those behind it the others
+next_line : (bytes : List ℕ) (ts : List Token) (n : ℕ) → n ≡ prefix_len is_inner ts → lines_of bytes ts ≡ line_of bytes (take n ts) ++ lines_of bytes (drop (n + 1) ts)
+next_line bytes ts n e =
+    ⊎_elim
+    (λ h. lines_cut bytes ts n e h)
+    (λ h.
+    lines_whole bytes ts (drop (n + 1) ts) n e h (drop_all (n + 1) ts (omega arith))
+    ∙ ap (λ (l : List Token). line_of bytes l ++ lines_of bytes (drop (n + 1) ts)) (sym (take_all n ts h)))
+    (cases_lt n (length ts))
 
-pub no_line : (bytes : List ℕ) (ts rest : List Token) → true ≡ nat_eq (length ts) 0 → lines_of bytes rest ≡ line_of bytes ts ++ lines_of bytes rest
-no_line bytes ts rest e = ap (λ (l : List Token). line_of bytes l ++ lines_of bytes rest) (sym (nil_from_length ts (eqb-true (length ts) 0 (sym e))))
+-- the places of that line in all tokens
+line_in : (bytes : List ℕ) (ts : List Token) (next n : ℕ) → n ≡ prefix_len is_inner (drop next ts)
+    → lines_of bytes (drop next ts) ≡ line_of bytes (slice_range ts next (next + n)) ++ lines_of bytes (drop (min (next + n + 1) (length ts)) ts)
+line_in bytes ts next n e =
+    let size : n ≡ next + n - next = omega arith in
+    let place : next + (n + 1) ≡ next + n + 1 = omega arith in
+    next_line bytes (drop next ts) n e
+    ∙ ap (λ k. line_of bytes (take k (drop next ts)) ++ lines_of bytes (drop (n + 1) (drop next ts))) size
+    ∙ ap (λ (l : List Token). line_of bytes (slice_range ts next (next + n)) ++ lines_of bytes l)
+    (drop-drop (n + 1) next ts ∙ ap (λ k. drop k ts) place ∙ sym (drop_min (next + n + 1) ts))
 
-pub none_left : (old cur : Lines) → true ≡ nat_eq (length cur.rest.now) 0 → left_of cur ≡ left_of old → IsTaken old cur None
-unfolding left_of IsTaken
-none_left old cur e h = sym h ∙ ap (lines_of cur.bytes.now) (nil_from_length cur.rest.now (eqb-true (length cur.rest.now) 0 (sym e)))
+-- a line with tokens
+some_line : (bytes : List ℕ) (ts : List Token) (n : ℕ) (t : Token) (rest : List Token) → ts ≡ t ∷ rest → 0 < n → line_of bytes (take n ts) ≡ record { number = t.line; tokens = map (spelled bytes) (take n ts) } ∷ []
+some_line bytes ts zero t rest e h = absurd (omega arith)
+some_line bytes ts (suc n) t rest e h = rw e refl
 
--- of the lines that are left the first one is `ts`, which may be empty, and the others are left after it
-pub some_taken : (old cur new : Lines) (line : Line) → left_of cur ≡ left_of old → lines_of cur.bytes.now cur.rest.now ≡ line_of cur.bytes.now line.tokens.now ++ lines_of cur.bytes.now new.rest.now
-    → new.bytes ≡ cur.bytes → line.bytes ≡ cur.bytes → false ≡ nat_eq (length line.tokens.now) 0 → IsTaken old new (Some line)
-unfolding left_of IsTaken
-some_taken old cur new line h cut same here some =
-    let same_bytes : cur.bytes.now ≡ new.bytes.now = ap (λ (b : Bor (List ℕ)). b.now) (sym same) in
-    let line_bytes : cur.bytes.now ≡ line.bytes.now = ap (λ (b : Bor (List ℕ)). b.now) (sym here) in
-    sym h ∙ cut
-    ∙ ap (λ (l : List text.Line). l ++ lines_of cur.bytes.now new.rest.now) (some_line cur.bytes.now line.tokens.now some)
-    ∙ ap (λ (b : List ℕ). record { number = number_of line.tokens.now; tokens = map (spelled b) line.tokens.now } ∷ lines_of cur.bytes.now new.rest.now) line_bytes
-    ∙ ap (λ (b : List ℕ). line_view line ∷ lines_of b new.rest.now) same_bytes
+-- the next line has tokens, and the lines behind it are left
+pub some_moves : (bytes : List ℕ) (ts rest : List Token) (before next n after : ℕ) (t : Token) → n ≡ prefix_len is_inner rest → rest ≡ drop next ts → next < length ts → t ≡ get_or ts next t → after ≡ min (next + n + 1) (length ts) → 0 < n
+    → moved before (lines_of bytes (drop next ts)) ≡ record { number = before + t.line; tokens = map (spelled bytes) (slice_range ts next (next + n)) } ∷ moved before (lines_of bytes (drop after ts))
+some_moves bytes ts rest before next n after t size is within read end some =
+    let first : drop next ts ≡ t ∷ drop (next + 1) ts = drop_more ts next t within ∙ ap (λ (u : Token). u ∷ drop (next + 1) ts) (sym read) in
+    let whole : n ≡ next + n - next = omega arith in
+    let one = some_line bytes (drop next ts) n t (drop (next + 1) ts) first some ∙ ap (λ k. record { number = t.line; tokens = map (spelled bytes) (take k (drop next ts)) } ∷ []) whole in
+    ap (moved before) (line_in bytes ts next n (size ∙ ap (prefix_len is_inner) is))
+    ∙ ap (λ k. moved before (line_of bytes (take k (drop next ts)) ++ lines_of bytes (drop (min (next + n + 1) (length ts)) ts))) (sym whole)
+    ∙ ap (λ (l : List text.Line). moved before (l ++ lines_of bytes (drop (min (next + n + 1) (length ts)) ts))) one
+    ∙ ap (λ k. record { number = before + t.line; tokens = map (spelled bytes) (slice_range ts next (next + n)) } ∷ moved before (lines_of bytes (drop k ts))) (sym end)
 
-pub still_left : (old cur : Lines) (ts : List Token) (rest : Bor (List Token)) → left_of cur ≡ left_of old → lines_of cur.bytes.now cur.rest.now ≡ line_of cur.bytes.now ts ++ lines_of cur.bytes.now rest.now → true ≡ nat_eq (length ts) 0
-    → left_of (record { bytes = cur.bytes; rest = rest }) ≡ left_of old
-unfolding left_of
-still_left old cur ts rest h cut none = no_line cur.bytes.now ts rest.now none ∙ sym cut ∙ h
+-- the next line has no token
+pub none_moves : (bytes : List ℕ) (ts rest : List Token) (before next n after : ℕ) → n ≡ prefix_len is_inner rest → rest ≡ drop next ts → after ≡ min (next + n + 1) (length ts) → n ≡ 0
+    → moved before (lines_of bytes (drop next ts)) ≡ moved before (lines_of bytes (drop after ts))
+none_moves bytes ts rest before next n after size is end none =
+    let whole : next + n - next ≡ 0 = omega arith in
+    ap (moved before) (line_in bytes ts next n (size ∙ ap (prefix_len is_inner) is))
+    ∙ ap (λ k. moved before (line_of bytes (take k (drop next ts)) ++ lines_of bytes (drop (min (next + n + 1) (length ts)) ts))) whole
+    ∙ ap (λ k. moved before (lines_of bytes (drop k ts))) (sym end)
+
+-- no line is left in the part
+pub none_in : (p : Part) → length p.tokens.items ≤ p.next → left_in p ≡ []
+unfolding left_in
+none_in p h = ap (λ (l : List Token). moved p.before (lines_of p.bytes.now l)) (drop_all p.next p.tokens.items h)

@@ -4,8 +4,17 @@ pub mod WireOptions
 pub mod Joins
 pub mod SeenLemmas
 pub mod LineLemmas
+pub mod PartsBytes
+pub mod PartsTokens
+pub mod PartsLeads
+pub mod PartsJoin
+pub mod PartsLines
+pub mod PartsSplit
+pub mod PartsFacts
 pub mod CursorLemmas
+pub mod PartLemmas
 pub mod Moves
+pub mod LoadMoves
 pub mod CellMoves
 pub mod ModuleMoves
 pub mod FileMoves

@@ -2,6 +2,7 @@ pub mod Names
 pub mod Lexemes
 pub mod Statements
 pub mod Lines
+pub mod Parts
 pub mod Text
 pub mod Refusals
 pub mod Said

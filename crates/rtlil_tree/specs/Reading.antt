@@ -22,7 +22,7 @@ use Rattle.std.specs.declared.alloc.Global.{Global}
 use Rattle.rtlil_tree.specs.declared.misfit.Misfit.{Misfit}
 use Rattle.rtlil_tree.specs.declared.misfit.Misfit.TheVariants as misfit
 use Rattle.rtlil_tree.specs.declared.line.Line.{Line}
-use Rattle.rtlil_tree.specs.declared.line.Lines.{Lines}
+use Rattle.rtlil_tree.specs.declared.lines.Lines.{Lines}
 use Rattle.rtlil_tree.specs.declared.statements.CellStatement.{CellStatement}
 use Rattle.rtlil_tree.specs.declared.statements.ModuleStatement.{ModuleStatement}
 use Rattle.rtlil_tree.specs.declared.statements.FileStatement.{FileStatement}
@@ -33,7 +33,8 @@ use Rattle.rtlil_tree.specs.Names.{wire_names, cell_names, port_names, module_na
 use Rattle.rtlil_tree.specs.Seen.{HaveSameNames}
 use Rattle.rtlil_tree.specs.Lines as text
 use Rattle.rtlil_tree.specs.Lines.{lines_of}
-use Rattle.rtlil_tree.specs.Cursor.{line_view, left_of}
+use Rattle.rtlil_tree.specs.Parts.{HasTokens}
+use Rattle.rtlil_tree.specs.Cursor.{line_view, Rest, IsRest, left_of}
 use Rattle.rtlil_tree.specs.Said.{◌>>=◌, lexemes_of}
 use Rattle.rtlil_tree.specs.Forms.{file_form_of, module_form_of, cell_form_of, file_view, module_view, cell_view, FileForm, ModuleForm, CellForm}
 use Rattle.rtlil_tree.specs.Machine.{State, start, file, inside, within, step, file_step, module_step, cell_step, with_items, run}
@@ -57,10 +58,14 @@ abbrev pub answer_at : {X : Type 0} → Result X Misfit → ℕ → Result X Sto
 answer_at (Ok x) line = Ok x
 answer_at (Err e) line = Err (stop_of e line)
 
--- what the statements give behind a step
-abbrev pub run_from : ℕ → Result State Refusal → List text.Line → Result Tree Refusal
-run_from end_line (Ok s) lines = run end_line s lines
-run_from end_line (Err r) lines = Err r
+-- what the lines that are left give behind a state
+abbrev pub run_on : Rest → State → Lines → Result Tree Refusal
+run_on rest s lines = run rest.end_line s (left_of rest lines)
+
+-- what they give behind a step
+abbrev pub run_from : Rest → Result State Refusal → Lines → Result Tree Refusal
+run_from rest (Ok s) lines = run_on rest s lines
+run_from rest (Err r) lines = Err r
 
 -- the form of a line, by its place
 abbrev pub form_in_cell : text.Line → Option CellForm
@@ -109,10 +114,10 @@ abbrev pub past_cell : List Module → Module → Cell → CellBody → State
 past_cell ms m c b = inside ms (with_item m (item.Cell (with_parts c b.parameters.items b.connects.items))) []
 
 -- all that stands in a cell, up to its end
-abbrev pub ReadsCell : Result CellBody Stop → ℕ → Lines → Lines → Type 0
-ReadsCell result end_line old new =
-    (ms : List Module) (m : Module) (c : Cell) → LeadsTo result (run end_line (within ms m (with_parts c [] [])) (left_of old))
-    (λ b. run end_line (past_cell ms m c b) (left_of new))
+abbrev pub ReadsCell : Result CellBody Stop → Lines → Lines → Type 0
+ReadsCell result old new =
+    (rest : Rest) → IsRest old.bytes.now rest → (ms : List Module) (m : Module) (c : Cell) → LeadsTo result (run_on rest (within ms m (with_parts c [] [])) old)
+    (λ b. run_on rest (past_cell ms m c b) new)
 
 -- ---- modules
 
@@ -140,20 +145,20 @@ abbrev pub ModuleStepsTo : {X : Type 0} → Result X Stop → ModuleBody → Mod
 ModuleStepsTo result old new line form = (ms : List Module) (m : Module) → LeadsTo result (form_step ms m old line form) (λ _. Ok (in_module ms m new))
 
 -- a statement in the module and the lines behind it lead from one body to another
-abbrev pub ModuleRunsTo : {X : Type 0} → Result X Stop → ℕ → ModuleBody → ModuleBody → Lines → Lines → ℕ → ModuleForm → Type 0
-ModuleRunsTo result end_line old new before after line form =
-    (ms : List Module) (m : Module) → LeadsTo result (run_from end_line (form_step ms m old line form) (left_of before))
-    (λ _. run end_line (in_module ms m new) (left_of after))
+abbrev pub ModuleRunsTo : {X : Type 0} → Result X Stop → ModuleBody → ModuleBody → Lines → Lines → ℕ → ModuleForm → Type 0
+ModuleRunsTo result old new before after line form =
+    (rest : Rest) → IsRest before.bytes.now rest → (ms : List Module) (m : Module) → LeadsTo result (run_from rest (form_step ms m old line form) before)
+    (λ _. run_on rest (in_module ms m new) after)
 
 -- behind the module
 abbrev pub past_module : List Module → Module → List Item → State
 past_module ms m items = file (ms ++ with_items m items ∷ []) []
 
 -- all that stands in a module, up to its end
-abbrev pub ReadsModule : Result (Vec Item Global) Stop → ℕ → Lines → Lines → Type 0
-ReadsModule result end_line old new =
-    (ms : List Module) (m : Module) → LeadsTo result (run end_line (inside ms (with_items m []) []) (left_of old))
-    (λ items. run end_line (past_module ms m items.items) (left_of new))
+abbrev pub ReadsModule : Result (Vec Item Global) Stop → Lines → Lines → Type 0
+ReadsModule result old new =
+    (rest : Rest) → IsRest old.bytes.now rest → (ms : List Module) (m : Module) → LeadsTo result (run_on rest (inside ms (with_items m []) []) old)
+    (λ items. run_on rest (past_module ms m items.items) new)
 
 -- ---- files
 
@@ -172,10 +177,14 @@ abbrev pub in_file : FileBody → State
 in_file b = file b.modules.items b.held.items
 
 -- a statement of the file and the lines behind it lead from one body to another
-abbrev pub FileRunsTo : {X : Type 0} → Result X Stop → ℕ → FileBody → FileBody → Lines → Lines → ℕ → FileForm → Type 0
-FileRunsTo result end_line old new before after line form =
-    LeadsTo result (run_from end_line (file_step old.modules.items old.held.items line (Some form)) (left_of before))
-    (λ _. run end_line (in_file new) (left_of after))
+abbrev pub FileRunsTo : {X : Type 0} → Result X Stop → FileBody → FileBody → Lines → Lines → ℕ → FileForm → Type 0
+FileRunsTo result old new before after line form =
+    (rest : Rest) → IsRest before.bytes.now rest → LeadsTo result (run_from rest (file_step old.modules.items old.held.items line (Some form)) before)
+    (λ _. run_on rest (in_file new) after)
+
+-- all that stands in a file
+abbrev pub ReadsFile : Result Tree Stop → Lines → Type 0
+ReadsFile result old = (rest : Rest) → IsRest old.bytes.now rest → LeadsTo result (run_on rest start old) (λ t. Ok t)
 
 -- ---- whole texts
 
@@ -184,6 +193,10 @@ abbrev pub fault_stop : List ℕ → LexFault → Stop
 fault_stop bytes (fault.BadByte place) = stop.Refused (BadToken (line_at bytes place))
 fault_stop bytes (fault.OpenString place) = stop.Refused (BadToken (line_at bytes place))
 fault_stop bytes fault.NoMemory = stop.NoMemory
+
+-- why bytes are not read, of whose statements this is refused: their tokens are right, or their fault comes first
+abbrev pub IsDueFor : Refusal → List ℕ → Stop → Type 0
+IsDueFor refusal bytes e = (HasTokens bytes × (e ≡ stop.Refused refusal)) ⊎ ((fault : LexFault) × HasFault bytes fault × (e ≡ fault_stop bytes fault))
 
 abbrev pub has_top : Tree → Option ℕ → Result Tree Stop
 has_top tree (Some place) = Ok tree

@@ -11,13 +11,6 @@ use circuit_types::{BitValue, Bits, Value};
 use sequences::Sequence;
 use std::alloc::{AllocError, Global};
 
-/// A copy of a text of the input.
-pub fn copy(alloc: Global, text: &[u8]) -> Result<Sequence<u8>, AllocError>
-    ensures { IfOk result (λ s. s ≡ text.now) }
-{
-    Ok(Sequence::from_vec(Vec::from_slice(alloc, text)?))
-}
-
 fn bit(b: u8) -> BitValue
     ensures { result ≡ bit_of b }
 {

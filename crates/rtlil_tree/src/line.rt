@@ -1,9 +1,9 @@
-//! The statements of a text, as its tokens up to each end of line.
+//! A statement of a text, as its tokens up to an end of line.
 
-ghost use Rattle.std.specs.Prelude.{◌≡◌, ℕ, ◌<◌, List, ◌++◌, length, map};
+ghost use Rattle.std.specs.Prelude.{◌≡◌, ◌≤◌, length, map};
 ghost use Rattle.std.specs.List.{prefix_len};
-ghost use Rattle.rtlil_tree.specs.Lines.{is_eol, line_of, lines_of};
-ghost use Rattle.rtlil_tree.specs.Cursor.{is_inner};
+ghost use Rattle.rtlil_tree.specs.Lines.{is_eol};
+ghost use Rattle.rtlil_tree.specs.Cursor.{is_inner, line_view};
 ghost use Rattle.rtlil_tree.specs.Said.{Gives, plain, lexemes_of};
 ghost use Rattle.rtlil_tree.specs.Machine.{is_foreign, is_foreign_token};
 
@@ -12,18 +12,12 @@ use crate::misfit::Misfit;
 use crate::word::{Word, piece, word_of};
 use rtlil_lex::{Token, TokenKind};
 
-/// The tokens of a statement.
+/// The tokens of a statement, and the number of its line.
 #[derive(Clone, Copy)]
-pub struct Line<'a> {
+pub struct Line<'t, 'a> {
     pub bytes: &'a [u8],
-    pub tokens: &'a [Token],
-}
-
-/// The tokens that are left.
-#[derive(Drop)]
-pub struct Lines<'a> {
-    pub bytes: &'a [u8],
-    pub rest: &'a [Token],
+    pub tokens: &'t [Token],
+    pub number: u32,
 }
 
 fn is_end(kind: TokenKind) -> bool
@@ -36,8 +30,9 @@ fn is_end(kind: TokenKind) -> bool
 }
 
 /// How many tokens stand before the next end of line.
-fn line_size(tokens: &[Token]) -> usize
-    ensures { result ≡ prefix_len is_inner tokens.now }
+pub fn line_size(tokens: &[Token]) -> usize
+    ensures size { result ≡ prefix_len is_inner tokens.now }
+    ensures within { result ≤ length tokens.now }
 {
     tokens
         .iter()
@@ -45,53 +40,7 @@ fn line_size(tokens: &[Token]) -> usize
         .count()
 }
 
-/// The tokens before the next end of line, and those behind it.
-fn next_line(tokens: &[Token]) -> (&[Token], &[Token])
-    ensures lines { (bytes : List ℕ) → lines_of bytes tokens.now ≡ line_of bytes result.0.now ++ lines_of bytes result.1.now }
-    ensures shorter { 0 < length tokens.now → length result.1.now < length tokens.now }
-{
-    let size = line_size(tokens);
-    if size < tokens.len() {
-        (&tokens[..size], &tokens[size + 1..])
-    } else {
-        (tokens, &tokens[tokens.len()..])
-    }
-}
-
-impl<'a> Lines<'a> {
-    ghost use Rattle.rtlil_tree.specs.Cursor.{IsTaken};
-
-    /// Takes the next line that has a token.
-    pub fn take(&mut self) -> Option<Line<'a>>
-        ensures { IsTaken self.old self.new result }
-    {
-        while !self.rest.is_empty() {
-            let (tokens, rest) = next_line(self.rest);
-            self.rest = rest;
-            if !tokens.is_empty() {
-                return Some(Line {
-                    bytes: self.bytes,
-                    tokens,
-                });
-            }
-        }
-        None
-    }
-}
-
-impl<'a> Line<'a> {
-    ghost use Rattle.rtlil_tree.specs.Cursor.{line_view};
-
-    /// The line's number.
-    pub fn number(&self) -> u32
-        ensures { result ≡ (line_view self.now).number }
-    {
-        match self.tokens {
-            [first, ..] => first.line,
-            [] => 0,
-        }
-    }
-
+impl<'t, 'a> Line<'t, 'a> {
     /// Whether the first word is `memory` or `process`.
     pub fn is_foreign(&self) -> bool
         ensures { result ≡ is_foreign (line_view self.now).tokens }

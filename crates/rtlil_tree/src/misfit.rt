@@ -4,9 +4,11 @@ ghost use Rattle.std.specs.Prelude.{◌≡◌};
 ghost use Rattle.rtlil_tree.specs.declared.misfit.Misfit.TheVariants.{NoMemory};
 ghost use Rattle.circuit_types.specs.declared.refusal.Refusal.TheVariants.{BadForm};
 ghost use Rattle.circuit_types.specs.declared.refusal.Stop.TheVariants.{Refused};
+ghost use Rattle.rtlil_tree.specs.Cursor.{part_stop};
 ghost use Rattle.rtlil_tree.specs.Reading.{stop_of, answer_at};
 
 use circuit_types::{Refusal, Stop};
+use rtlil_lex::LexFault;
 use std::alloc::{AllocError, AllocFailed};
 
 /// Why a statement was not read.
@@ -57,5 +59,15 @@ pub fn answer_at<T>(answer: Result<T, Misfit>, line: u32) -> Result<T, Stop>
     match answer {
         Ok(value) => Ok(value),
         Err(misfit) => Err(stop_at(misfit, line)),
+    }
+}
+
+/// Why a part, which begins on the line, has no tokens. Where a token is bad, the whole text tells on which line it is.
+pub fn part_stop(fault: LexFault, line: u32) -> Stop
+    ensures { result ≡ part_stop fault line }
+{
+    match fault {
+        LexFault::NoMemory => Stop::NoMemory,
+        _ => Stop::Refused(Refusal::BadToken { line }),
     }
 }

@@ -1,23 +1,23 @@
 //! The statements of a module.
 
-ghost use Rattle.std.specs.Prelude.{◌≡◌, ◌≤◌, [], true, length, IfErr, OnOk};
+ghost use Rattle.std.specs.Prelude.{◌≡◌, [], true, IfErr, OnOk};
 ghost use Rattle.circuit_types.specs.declared.refusal.Refusal.TheVariants.{BadForm};
 ghost use Rattle.circuit_types.specs.declared.refusal.Stop.TheVariants.{Refused};
 ghost use Rattle.rtlil_tree.specs.Said.{Gives};
 ghost use Rattle.rtlil_tree.specs.Forms.{module_view, wire_view, parameter, wire, cell_begins, connect};
-ghost use Rattle.rtlil_tree.specs.Cursor.{line_view, left_of};
+ghost use Rattle.rtlil_tree.specs.Cursor.{line_view, GoesOn};
 ghost use Rattle.rtlil_tree.specs.Machine.{has_some};
 ghost use Rattle.rtlil_tree.specs.Reading.{form_in_module, HasItsNames, ReadsModuleLine};
 ghost use Rattle.rtlil_tree.specs.Reading.{ModuleStepsTo, ModuleRunsTo, ReadsModule};
 
 use crate::cell_body::{CellBody, read_cell_body};
-use crate::constant::copy;
-use crate::line::{Line, Lines};
+use crate::line::Line;
+use crate::lines::Lines;
 use crate::misfit::{Misfit, answer_at, bad_form};
 use crate::names::Names;
 use crate::statements::{ModuleStatement, WireStatement, module_statement};
 use crate::word::Word;
-use circuit_types::{Attribute, Cell, Connect, Item, Parameter, Refusal, Stop, Wire};
+use circuit_types::{Attribute, Cell, Connect, Item, Name, Parameter, Refusal, Stop, Wire};
 use sequences::Sequence;
 use std::alloc::Global;
 use std::mem;
@@ -25,15 +25,15 @@ use std::mem;
 /// What stands in a module, as far as it is read.
 #[derive(Drop)]
 pub struct ModuleBody<'a> {
-    pub items: Vec<Item>,
+    pub items: Vec<Item<'a>>,
     /// The attributes that stand before the next statement.
-    pub held: Vec<Attribute>,
+    pub held: Vec<Attribute<'a>>,
     pub wires: Names<'a>,
     pub cells: Names<'a>,
 }
 
 /// Refuses the statement on the line where attributes stand before it.
-pub fn none_held(held: &[Attribute], line: u32) -> Result<(), Stop>
+pub fn none_held(held: &[Attribute<'_>], line: u32) -> Result<(), Stop>
     ensures held { IfErr result (λ e. (has_some held.now ≡ true) × (e ≡ Refused (BadForm line))) }
     ensures none { OnOk result (held.now ≡ []) }
 {
@@ -44,7 +44,7 @@ pub fn none_held(held: &[Attribute], line: u32) -> Result<(), Stop>
 }
 
 /// The attributes, which are taken away.
-pub fn taken(alloc: Global, held: &mut Vec<Attribute>) -> Sequence<Attribute>
+pub fn taken<'a>(alloc: Global, held: &mut Vec<Attribute<'a>>) -> Sequence<Attribute<'a>>
     ensures attributes { result ≡ held.old.items }
     ensures none { held.new.items ≡ [] }
 {
@@ -65,9 +65,9 @@ impl<'a> ModuleBody<'a> {
         }
     }
 
-    fn parameter(&mut self, line: u32, of: Parameter) -> Result<(), Stop>
+    fn parameter(&mut self, line: u32, of: Parameter<'a>) -> Result<(), Stop>
         requires { HasItsNames self.old }
-        ensures step { ModuleStepsTo result self.old self.new line (parameter of) }
+        ensures step { ModuleStepsTo result self.old self.new line (parameter of.entry) }
         ensures names { OnOk result (HasItsNames self.new) }
     {
         none_held(&self.held, line)?;
@@ -75,9 +75,9 @@ impl<'a> ModuleBody<'a> {
         Ok(())
     }
 
-    fn connect(&mut self, line: u32, of: Connect) -> Result<(), Stop>
+    fn connect(&mut self, line: u32, of: Connect<'a>) -> Result<(), Stop>
         requires { HasItsNames self.old }
-        ensures step { ModuleStepsTo result self.old self.new line (connect of) }
+        ensures step { ModuleStepsTo result self.old self.new line (connect of.entry) }
         ensures names { OnOk result (HasItsNames self.new) }
     {
         none_held(&self.held, line)?;
@@ -97,11 +97,10 @@ impl<'a> ModuleBody<'a> {
         if of.options.inout {
             return Err(Stop::Refused(Refusal::UnsupportedStatement { line }));
         }
-        let name = copy(alloc, of.name)?;
         let attributes = taken(alloc, &mut self.held);
         self.items.push(Item::Wire(Wire {
             line,
-            name,
+            name: Name::in_text(of.name),
             attributes,
             width: of.options.width,
             offset: of.options.offset,
@@ -117,17 +116,16 @@ impl<'a> ModuleBody<'a> {
         &mut self,
         alloc: Global,
         lines: &mut Lines<'a>,
-        end_line: u32,
         line: u32,
         kind: &'a [u8],
         name: &'a [u8],
         words: &mut Vec<Word<'a>>,
     ) -> Result<(), Stop>
         requires { HasItsNames self.old }
-        ensures cell { ModuleRunsTo result end_line self.old self.new lines.old lines.new line
+        ensures cell { ModuleRunsTo result self.old self.new lines.old lines.new line
             (cell_begins kind.now name.now) }
         ensures names { OnOk result (HasItsNames self.new) }
-        ensures fewer { OnOk result (length (left_of lines.new) ≤ length (left_of lines.old)) }
+        ensures on { OnOk result (GoesOn lines.old lines.new) }
     {
         if !self.cells.add(name)? {
             return Err(bad_form(line));
@@ -136,14 +134,12 @@ impl<'a> ModuleBody<'a> {
             parameters,
             connects,
             ports: _,
-        } = read_cell_body(alloc, lines, end_line, words)?;
-        let kind = copy(alloc, kind)?;
-        let name = copy(alloc, name)?;
+        } = read_cell_body(alloc, lines, words)?;
         let attributes = taken(alloc, &mut self.held);
         self.items.push(Item::Cell(Cell {
             line,
-            kind,
-            name,
+            kind: Name::in_text(kind),
+            name: Name::in_text(name),
             attributes,
             parameters: Sequence::from_vec(parameters),
             connects: Sequence::from_vec(connects),
@@ -154,24 +150,24 @@ impl<'a> ModuleBody<'a> {
 
 fn form<'a>(
     alloc: Global,
-    line: &Line<'a>,
+    line: &Line<'_, 'a>,
     words: &mut Vec<Word<'a>>,
 ) -> Result<ModuleStatement<'a>, Misfit>
     ensures { Gives module_view result (form_in_module (line_view line.now)) }
 {
     line.words(words)?;
-    module_statement(alloc, line.number(), words)
+    module_statement(alloc, line.number, words)
 }
 
 /// The statement of a module on the line.
 fn statement<'a>(
     alloc: Global,
-    line: &Line<'a>,
+    line: &Line<'_, 'a>,
     words: &mut Vec<Word<'a>>,
 ) -> Result<ModuleStatement<'a>, Stop>
     ensures { ReadsModuleLine result line.now }
 {
-    let number = line.number();
+    let number = line.number;
     if line.is_foreign() {
         return Err(Stop::Refused(Refusal::UnsupportedStatement { line: number }));
     }
@@ -182,15 +178,15 @@ fn statement<'a>(
 pub fn read_module_body<'a>(
     alloc: Global,
     lines: &mut Lines<'a>,
-    end_line: u32,
     words: &mut Vec<Word<'a>>,
-) -> Result<Vec<Item>, Stop>
-    ensures body { ReadsModule result end_line lines.old lines.new }
-    ensures fewer { OnOk result (length (left_of lines.new) ≤ length (left_of lines.old)) }
+) -> Result<Vec<Item<'a>>, Stop>
+    ensures body { ReadsModule result lines.old lines.new }
+    ensures on { OnOk result (GoesOn lines.old lines.new) }
 {
     let mut body = ModuleBody::new(alloc);
-    while let Some(line) = lines.take() {
-        let number = line.number();
+    while lines.advance(alloc)? {
+        let line = lines.line();
+        let number = line.number;
         match statement(alloc, &line, words)? {
             ModuleStatement::Attribute(attribute) => {
                 body.held.push(attribute)?;
@@ -202,7 +198,7 @@ pub fn read_module_body<'a>(
                 body.wire(alloc, number, wire)?;
             }
             ModuleStatement::Cell(kind, name) => {
-                body.cell(alloc, lines, end_line, number, kind, name, words)?;
+                body.cell(alloc, lines, number, kind, name, words)?;
             }
             ModuleStatement::Connect(connect) => {
                 body.connect(number, connect)?;
@@ -213,5 +209,5 @@ pub fn read_module_body<'a>(
             }
         }
     }
-    Err(bad_form(end_line))
+    Err(bad_form(lines.end_line))
 }

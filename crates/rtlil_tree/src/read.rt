@@ -8,14 +8,13 @@ ghost use Rattle.circuit_types.specs.declared.refusal.Refusal.{Refusal};
 ghost use Rattle.circuit_types.specs.declared.tree.Tree.{Tree};
 ghost use Rattle.rtlil_tree.specs.Text.{Stands};
 ghost use Rattle.rtlil_tree.specs.Refusals.{IsRefused};
-ghost use Rattle.rtlil_tree.specs.Cursor.{last_line};
-ghost use Rattle.rtlil_tree.specs.Reading.{ReadsText, fault_stop, topped};
+ghost use Rattle.rtlil_tree.specs.Reading.{ReadsText, IsDueFor, fault_stop, topped};
 ghost use Rattle.rtlil_tree.specs.Answers.{StandsWithTop, HasStop, AnswersTree, AnswersRefusal};
 
 use crate::file_body::read_file;
-use crate::line::Lines;
+use crate::lines::Lines;
 use circuit_types::{Refusal, Stop, Tree, top};
-use rtlil_lex::{LexFault, MOST_BYTES, Token, lex};
+use rtlil_lex::{LexFault, MOST_BYTES, lex};
 use std::alloc::Global;
 
 /// The number of the line on which a place is.
@@ -43,35 +42,33 @@ fn fault_stop(bytes: &[u8], fault: LexFault) -> Stop
     }
 }
 
-/// The number of the line of the last token.
-fn last_line(tokens: &[Token]) -> u32
-    ensures { result ≡ last_line tokens.now }
+/// Why a text is not read, of whose statements this is refused: a bad token is refused before them, wherever it is.
+fn refused(alloc: Global, bytes: &[u8], refusal: Refusal) -> Stop
+    requires { length bytes.now ≤ MOST_BYTES }
+    ensures { IsDueFor refusal bytes.now result }
 {
-    match tokens.last() {
-        Some(last) => last.line,
-        None => 0,
+    match lex(alloc, bytes) {
+        Ok(_) => Stop::Refused(refusal),
+        Err(fault) => fault_stop(bytes, fault),
     }
 }
 
-/// The tree of the statements. The last token is the end of the text.
-fn read_text(alloc: Global, bytes: &[u8]) -> Result<Tree, Stop>
+/// The tree of the statements.
+fn read_text(alloc: Global, bytes: &[u8]) -> Result<Tree<'_>, Stop>
     requires { length bytes.now ≤ MOST_BYTES }
     ensures { ReadsText result bytes.now }
 {
-    let tokens = match lex(alloc, bytes) {
-        Ok(tokens) => tokens,
-        Err(fault) => return Err(fault_stop(bytes, fault)),
-    };
-    let mut lines = Lines {
-        bytes,
-        rest: &tokens,
-    };
-    read_file(alloc, &mut lines, last_line(&tokens))
+    let mut lines = Lines::new(alloc, bytes);
+    match read_file(alloc, &mut lines) {
+        Ok(tree) => Ok(tree),
+        Err(Stop::Refused(refusal)) => Err(refused(alloc, bytes, refusal)),
+        Err(Stop::NoMemory) => Err(Stop::NoMemory),
+    }
 }
 
 /// The tree, if it has a top module.
-fn topped(tree: Tree) -> Result<Tree, Stop>
-    ensures { result ≡ topped tree }
+fn topped(tree: Tree<'_>) -> Result<Tree<'_>, Stop>
+    ensures { result ≡ topped tree.entry }
 {
     match top(&tree) {
         Some(_) => Ok(tree),
@@ -79,8 +76,8 @@ fn topped(tree: Tree) -> Result<Tree, Stop>
     }
 }
 
-/// The tree that a text stands for, if it has a top module; or which refusal is due.
-pub fn read_tree(alloc: Global, bytes: &[u8]) -> Result<Tree, Stop>
+/// The tree that a text stands for, if it has a top module; or which refusal is due. The names of the tree lie in the text.
+pub fn read_tree(alloc: Global, bytes: &[u8]) -> Result<Tree<'_>, Stop>
     requires { length bytes.now ≤ MOST_BYTES }
     // What is answered holds of the bytes.
     ensures tree { IfOk result (StandsWithTop bytes.now) }

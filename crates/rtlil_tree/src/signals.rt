@@ -5,11 +5,11 @@ ghost use Rattle.rtlil_tree.specs.Statements.{nesting_of};
 ghost use Rattle.rtlil_tree.specs.Said.{Gives, plain};
 ghost use Rattle.rtlil_tree.specs.Forms.{slice_at, sliced, atom_of, closes, signals_of, ReadsParts};
 
-use crate::constant::{constant, copy};
+use crate::constant::constant;
 use crate::misfit::Misfit;
 use crate::options::place;
 use crate::word::Word;
-use circuit_types::Signal;
+use circuit_types::{Name, Signal};
 use sqlite_items::{Boxed, Items};
 use std::alloc::Global;
 
@@ -17,7 +17,7 @@ use std::alloc::Global;
 pub const MOST_NESTING: u32 = 64;
 
 /// How deep the slices and joins of the signal nest, if that is at most [`MOST_NESTING`], and else that.
-fn nesting(signal: &Signal) -> u32
+fn nesting(signal: &Signal<'_>) -> u32
     ensures { result ≡ min (nesting_of signal.now) 64 }
 {
     match signal {
@@ -64,11 +64,11 @@ fn slice_at(words: &[Word<'_>]) -> Option<(u32, u32, usize)>
 }
 
 /// The signal that a word is.
-fn atom(alloc: Global, word: Word<'_>) -> Result<Signal, Misfit>
+fn atom<'a>(alloc: Global, word: Word<'a>) -> Result<Signal<'a>, Misfit>
     ensures { Gives (λ s. s) result (atom_of (plain word.entry)) }
 {
     match word {
-        Word::Id(name) => Ok(Signal::Wire(copy(alloc, name)?)),
+        Word::Id(name) => Ok(Signal::Wire(Name::in_text(name))),
         other => Ok(Signal::Value(constant(alloc, other)?)),
     }
 }
@@ -76,7 +76,7 @@ fn atom(alloc: Global, word: Word<'_>) -> Result<Signal, Misfit>
 /// The last signal sliced, where so many joins are open.
 fn sliced(
     alloc: Global,
-    signals: &mut Vec<Signal>,
+    signals: &mut Vec<Signal<'_>>,
     high: u32,
     low: u32,
     depth: u32,
@@ -105,12 +105,12 @@ fn closes(words: &[Word<'_>]) -> bool
 }
 
 /// The signals from a place on up to the end of a join or of the words, and that place; so many joins are open.
-fn parts(
+fn parts<'a>(
     alloc: Global,
-    words: &[Word<'_>],
+    words: &[Word<'a>],
     start: usize,
     depth: u32,
-) -> Result<(Vec<Signal>, usize), Misfit>
+) -> Result<(Vec<Signal<'a>>, usize), Misfit>
     requires within { start ≤ length words.now }
     requires shallow { depth ≤ 64 }
     ensures { ReadsParts result words.now start depth }
@@ -148,7 +148,7 @@ fn parts(
 }
 
 /// The signals that the words are.
-pub fn signals(alloc: Global, words: &[Word<'_>]) -> Result<Vec<Signal>, Misfit>
+pub fn signals<'a>(alloc: Global, words: &[Word<'a>]) -> Result<Vec<Signal<'a>>, Misfit>
     ensures { Gives (λ v. v.items) result (signals_of (map plain words.now)) }
 {
     let (signals, after) = parts(alloc, words, 0, 0)?;

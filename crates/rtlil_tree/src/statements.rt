@@ -4,13 +4,13 @@ ghost use Rattle.std.specs.Prelude.{◌≡◌, map, option_map, Some};
 ghost use Rattle.rtlil_tree.specs.Said.{Gives, plain};
 ghost use Rattle.rtlil_tree.specs.Forms.{attribute_of, autoidx_of, begins_of, file_form_of, module_parameter_of, wire_of, cell_of, one_of, two_of, connect_of, end_of, module_form_of, parameter_form_of, cell_parameter_of, one_bit, wire_bit, only_signal, port_connect_of, cell_form_of, file_view, wire_view, module_view, cell_view};
 
-use crate::constant::{constant, copy};
+use crate::constant::constant;
 use crate::keyword::Keyword;
 use crate::misfit::Misfit;
 use crate::options::{Options, place, wire_options};
 use crate::signals::signals;
 use crate::word::Word;
-use circuit_types::{Attribute, Connect, Parameter, ParameterForm, Port, Signal};
+use circuit_types::{Attribute, Connect, Name, Parameter, ParameterForm, Port, Signal};
 use sqlite_items::Boxed;
 use std::alloc::Global;
 
@@ -18,19 +18,19 @@ use std::alloc::Global;
 #[derive(Drop)]
 pub enum FileStatement<'a> {
     Autoidx(i32),
-    Attribute(Attribute),
+    Attribute(Attribute<'a>),
     Module(&'a [u8]),
 }
 
 /// A statement of a module.
 #[derive(Drop)]
 pub enum ModuleStatement<'a> {
-    Attribute(Attribute),
-    Parameter(Parameter),
+    Attribute(Attribute<'a>),
+    Parameter(Parameter<'a>),
     Wire(WireStatement<'a>),
     /// A cell's kind and its name.
     Cell(&'a [u8], &'a [u8]),
-    Connect(Connect),
+    Connect(Connect<'a>),
     End,
 }
 
@@ -45,20 +45,20 @@ pub struct WireStatement<'a> {
 /// A statement of a cell.
 #[derive(Drop)]
 pub enum CellStatement<'a> {
-    Parameter(Parameter),
+    Parameter(Parameter<'a>),
     /// The name of a port, and what is on it.
-    Connect(&'a [u8], Signal),
+    Connect(&'a [u8], Signal<'a>),
     End,
 }
 
 /// What follows the word `attribute`.
-fn attribute(alloc: Global, words: &[Word<'_>]) -> Result<Attribute, Misfit>
+fn attribute<'a>(alloc: Global, words: &[Word<'a>]) -> Result<Attribute<'a>, Misfit>
     ensures { Gives (λ a. a) result (attribute_of (map plain words.now)) }
 {
     match words {
         [Word::Id(name), value] => {
             let value = constant(alloc, *value)?;
-            let name = copy(alloc, name)?;
+            let name = Name::in_text(name);
             Ok(Attribute { name, value })
         }
         _ => Err(Misfit::NoForm),
@@ -101,26 +101,26 @@ pub fn file_statement<'a>(alloc: Global, words: &[Word<'a>]) -> Result<FileState
 }
 
 /// What follows the word `parameter` in a module.
-fn module_parameter(alloc: Global, line: u32, words: &[Word<'_>]) -> Result<Parameter, Misfit>
+fn module_parameter<'a>(
+    alloc: Global,
+    line: u32,
+    words: &[Word<'a>],
+) -> Result<Parameter<'a>, Misfit>
     ensures { Gives (λ p. p) result (module_parameter_of line (map plain words.now)) }
 {
     match words {
-        [Word::Id(name)] => {
-            let name = copy(alloc, name)?;
-            Ok(Parameter {
-                line,
-                form: ParameterForm::Plain,
-                name,
-                value: None,
-            })
-        }
+        [Word::Id(name)] => Ok(Parameter {
+            line,
+            form: ParameterForm::Plain,
+            name: Name::in_text(name),
+            value: None,
+        }),
         [Word::Id(name), value] => {
             let value = constant(alloc, *value)?;
-            let name = copy(alloc, name)?;
             Ok(Parameter {
                 line,
                 form: ParameterForm::Plain,
-                name,
+                name: Name::in_text(name),
                 value: Some(value),
             })
         }
@@ -156,8 +156,8 @@ fn cell<'a>(words: &[Word<'a>]) -> Result<ModuleStatement<'a>, Misfit>
 }
 
 /// The only signal of a list.
-fn one(signals: Vec<Signal>) -> Result<Signal, Misfit>
-    ensures { Gives (λ s. s) result (one_of signals.items) }
+fn one<'a>(signals: Vec<Signal<'a>>) -> Result<Signal<'a>, Misfit>
+    ensures { Gives (λ s. s) result (one_of signals.entry.items) }
 {
     let mut signals = signals;
     let Some(signal) = signals.pop() else {
@@ -171,8 +171,8 @@ fn one(signals: Vec<Signal>) -> Result<Signal, Misfit>
 }
 
 /// The two signals of a list.
-fn two(signals: Vec<Signal>) -> Result<(Signal, Signal), Misfit>
-    ensures { Gives (λ s. s) result (two_of signals.items) }
+fn two<'a>(signals: Vec<Signal<'a>>) -> Result<(Signal<'a>, Signal<'a>), Misfit>
+    ensures { Gives (λ s. s) result (two_of signals.entry.items) }
 {
     let mut signals = signals;
     let Some(right) = signals.pop() else {
@@ -183,7 +183,7 @@ fn two(signals: Vec<Signal>) -> Result<(Signal, Signal), Misfit>
 }
 
 /// What follows the word `connect` in a module.
-fn connect(alloc: Global, line: u32, words: &[Word<'_>]) -> Result<Connect, Misfit>
+fn connect<'a>(alloc: Global, line: u32, words: &[Word<'a>]) -> Result<Connect<'a>, Misfit>
     ensures { Gives (λ c. c) result (connect_of line (map plain words.now)) }
 {
     let signals = signals(alloc, words)?;
@@ -248,7 +248,7 @@ fn parameter_form<'w, 'a>(words: &'w [Word<'a>]) -> (ParameterForm, &'w [Word<'a
 }
 
 /// What follows the word `parameter` in a cell.
-fn cell_parameter(alloc: Global, line: u32, words: &[Word<'_>]) -> Result<Parameter, Misfit>
+fn cell_parameter<'a>(alloc: Global, line: u32, words: &[Word<'a>]) -> Result<Parameter<'a>, Misfit>
     ensures { Gives (λ p. p) result (cell_parameter_of line (map plain words.now)) }
 {
     let (form, rest) = parameter_form(words);
@@ -280,10 +280,10 @@ fn wire_bit<'a>(words: &[Word<'a>]) -> Option<(&'a [u8], u32)>
 }
 
 /// The bit of a wire at a place.
-fn one_bit(alloc: Global, name: &[u8], place: u32) -> Result<Signal, Misfit>
+fn one_bit<'a>(alloc: Global, name: &'a [u8], place: u32) -> Result<Signal<'a>, Misfit>
     ensures { Gives (λ s. s) result (Some (one_bit name.now place)) }
 {
-    let wire = Signal::Wire(copy(alloc, name)?);
+    let wire = Signal::Wire(Name::in_text(name));
     Ok(Signal::Slice {
         of: Boxed::new(alloc, wire)?,
         high: place,
@@ -293,11 +293,11 @@ fn one_bit(alloc: Global, name: &[u8], place: u32) -> Result<Signal, Misfit>
 
 /// The only signal that the words are; most are a wire or a bit of one.
 #[tactic(auto, unfolding(crate::specs::Forms::signals_from))]
-fn only_signal(alloc: Global, words: &[Word<'_>]) -> Result<Signal, Misfit>
+fn only_signal<'a>(alloc: Global, words: &[Word<'a>]) -> Result<Signal<'a>, Misfit>
     ensures { Gives (λ s. s) result (only_signal (map plain words.now)) }
 {
     if let [Word::Id(name)] = words {
-        return Ok(Signal::Wire(copy(alloc, name)?));
+        return Ok(Signal::Wire(Name::in_text(name)));
     }
     if let Some((name, place)) = wire_bit(words) {
         return one_bit(alloc, name, place);

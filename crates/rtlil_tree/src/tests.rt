@@ -492,3 +492,113 @@ fn check_nested(
 fn nests_at_most_64_deep(rt: HostRuntime) -> Result<(), Fail> {
     check_nested(&rt, rt.alloc(), &NESTED)
 }
+
+/// A statement of 16 bytes, of which 1,024 are as many as a part has at least.
+const INDEX: &str = "autoidx 1234567\n";
+
+/// Texts of several parts: what stands first, a line, how often it stands, what stands behind, and what is answered.
+const LONG: [(&str, &str, usize, &str, &str); 17] = [
+    ("", INDEX, 2500, "module \\m\nend\n", "Ok"),
+    ("", INDEX, 2500, "module \\m\nend", "Ok"),
+    ("", INDEX, 2500, "", "Refused(NoTop)"),
+    (
+        "",
+        INDEX,
+        2500,
+        "module \\m\n",
+        "Refused(BadForm { line: 2502 })",
+    ),
+    (
+        "",
+        INDEX,
+        2500,
+        "wire \\a\n",
+        "Refused(BadForm { line: 2501 })",
+    ),
+    (
+        "",
+        INDEX,
+        2500,
+        "\n ?\n",
+        "Refused(BadToken { line: 2502 })",
+    ),
+    // A bad token is answered, though it stands parts behind a bad form.
+    (
+        "module m\n",
+        INDEX,
+        2500,
+        "end\n\"a\n",
+        "Refused(BadToken { line: 2503 })",
+    ),
+    // Statements of one module, and of one cell, in several parts.
+    (
+        "module \\m\n",
+        "connect \\a \\b\n",
+        2900,
+        "memory\nend\n",
+        "Refused(UnsupportedStatement { line: 2902 })",
+    ),
+    (
+        "module \\m\n",
+        "wire width 2 \\a\n",
+        2,
+        "end\n",
+        "Refused(BadForm { line: 3 })",
+    ),
+    (
+        "module \\m\ncell $x \\c\n",
+        "parameter \\P 1\n",
+        2700,
+        "connect \\A 1\nend\nend\n",
+        "Ok",
+    ),
+    (
+        "module \\m\ncell $x \\c\nconnect \\A 1\n",
+        "parameter \\P 1\n",
+        2700,
+        "connect \\A 1\nend\nend\n",
+        "Refused(BadForm { line: 2704 })",
+    ),
+    // The text ends with a part, with a line feed or without.
+    ("", INDEX, 1024, "module \\m\nend", "Ok"),
+    (
+        "",
+        INDEX,
+        1024,
+        "module \\m",
+        "Refused(BadForm { line: 1025 })",
+    ),
+    ("", INDEX, 1023, "module \\m\nend   ", "Ok"),
+    ("", INDEX, 1023, "module \\m\nend    ", "Ok"),
+    ("", INDEX, 1023, "module \\m\nend   \n", "Ok"),
+    (
+        "",
+        INDEX,
+        1023,
+        "module \\m\nend   \n?",
+        "Refused(BadToken { line: 1026 })",
+    ),
+];
+
+/// A text with a line so many times between others.
+fn long(
+    alloc: Global,
+    before: &str,
+    line: &str,
+    times: usize,
+    after: &str,
+) -> Result<Vec<u8>, AllocError> {
+    let mut text = Vec::from_slice(alloc, before.as_bytes())?;
+    push_times(&mut text, line.as_bytes(), times)?;
+    text.extend_from_slice(after.as_bytes())?;
+    Ok(text)
+}
+
+#[test]
+fn reads_texts_of_several_parts(rt: HostRuntime) -> Result<(), Fail> {
+    for (before, line, times, after, expected) in &LONG {
+        let text = long(rt.alloc(), before, line, *times, after)?;
+        check(&rt, rt.alloc(), &text, expected)?;
+    }
+    Ok(())
+}

@@ -36,14 +36,14 @@ pub struct MarkedWire {
 /// The most bits that a wire with the note `shares` may have.
 pub const MOST_SHARES: u32 = 16;
 
-fn is_mask(attribute: &Attribute) -> bool
+fn is_mask(attribute: &Attribute<'_>) -> bool
     ensures { result ≡ is_mask attribute.now }
 {
     attribute.name.as_slice() == b"\\mask".as_slice()
 }
 
 /// The value of the first attribute `\mask`, and what stands after it.
-fn first_mask(attributes: &[Attribute]) -> Option<(&Value, &[Attribute])>
+fn first_mask<'n, 'a>(attributes: &'n [Attribute<'a>]) -> Option<(&'n Value, &'n [Attribute<'a>])>
     ensures { MatchOption result (masks attributes.now ≡ []) (λ x. masks attributes.now ≡ x.0.now ∷ masks x.1.now) }
 {
     let mut rest = attributes;
@@ -114,7 +114,7 @@ fn value_mark(alloc: Global, port: Port, width: u32, value: &Value) -> Result<Ma
 
 /// What the wire carries as a note.
 #[tactic(auto, unfolding(crate::specs::Marks::mark_of))]
-fn read_mark(alloc: Global, wire: &Wire) -> Result<Mark, NoMemory>
+fn read_mark(alloc: Global, wire: &Wire<'_>) -> Result<Mark, NoMemory>
     ensures { IfOk result (λ mark. mark ≡ mark_of wire.now) }
 {
     let Some((value, rest)) = first_mask(wire.attributes.as_slice()) else {
@@ -129,7 +129,7 @@ fn read_mark(alloc: Global, wire: &Wire) -> Result<Mark, NoMemory>
 /// Puts the wire that the item may be behind others; answers the number of the next bit.
 fn push_wire(
     alloc: Global,
-    item: &Item,
+    item: &Item<'_>,
     first: u32,
     wires: &mut Vec<MarkedWire>,
 ) -> Result<u32, NoMemory>
@@ -154,7 +154,7 @@ fn push_wire(
 }
 
 /// The wires of a module with their notes, in file order.
-pub fn marked_wires(alloc: Global, items: &[Item]) -> Result<Vec<MarkedWire>, NoMemory>
+pub fn marked_wires(alloc: Global, items: &[Item<'_>]) -> Result<Vec<MarkedWire>, NoMemory>
     requires { sum_by (λ (w : AnyWire). w.width) (wires_among items.now) ≤ most_bits }
     ensures wires { IfOk result (λ wires. wires.items ≡ marked_wires items.now) }
     ensures placed { IfOk result (λ wires. All IsPlaced wires.items) }

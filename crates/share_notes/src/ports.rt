@@ -34,7 +34,7 @@ use std::alloc::Global;
 /// Refused, in this order and with the least line: a note that is none or may not stand where it stands; an input wire
 /// without a note; a secret bit that lacks a share, or a share note where there is one share; a share that an earlier wire
 /// of the same direction gives; a second clock, a flip-flop that is clocked by something else, or a clock that is read.
-pub fn roles(alloc: Global, tree: &Tree, nets: &Nets) -> Result<Roles, Stop>
+pub fn roles(alloc: Global, tree: &Tree<'_>, nets: &Nets) -> Result<Roles, Stop>
     requires nets { AreNets (top_items tree.now) nets.now }
     requires wired { IsWired nets.now }
     ensures roles { IfOk result (λ r. r ≡ roles_of_items (top_items tree.now)) }
@@ -47,20 +47,20 @@ pub fn roles(alloc: Global, tree: &Tree, nets: &Nets) -> Result<Roles, Stop>
 }
 
 /// The items of the module that is verified.
-fn items_of(tree: &Tree) -> &[Item]
+fn items_of<'t, 'a>(tree: &'t Tree<'a>) -> &'t [Item<'a>]
     ensures { result.now ≡ top_items tree.now }
 {
     match top(tree) {
         Some(place) => match tree.modules.as_slice().get(place) {
             Some(unit) => unit.items.as_slice(),
-            None => &[],
+            None => Default::default(),
         },
-        None => &[],
+        None => Default::default(),
     }
 }
 
 /// The roles of the ports of a module with these items.
-pub fn roles_of(alloc: Global, items: &[Item], nets: &Nets) -> Result<Roles, Stop>
+pub fn roles_of(alloc: Global, items: &[Item<'_>], nets: &Nets) -> Result<Roles, Stop>
     requires { sum_by (λ (w : AnyWire). w.width) (wires_among items.now) ≤ most_bits }
     ensures roles { IfOk result (λ r. r ≡ roles_of_items items.now) }
     ensures cause { MatchResult result

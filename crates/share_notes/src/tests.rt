@@ -7,8 +7,8 @@ ghost use Rattle.circuit_types.specs.declared.tree.Wire.{Wire as AnyWire};
 use crate::ports::roles_of;
 use cell_kinds::{CellKind, kind_of};
 use circuit_types::{
-    Attribute, InputRole, Item, NetCell, NetWire, Nets, OutputShare, Pin, Port, Refusal, Role,
-    Roles, Source, Stop, Value, Wire,
+    Attribute, InputRole, Item, Name, NetCell, NetWire, Nets, OutputShare, Pin, Port, Refusal,
+    Role, Roles, Source, Stop, Value, Wire,
 };
 use sequences::Sequence;
 use std::alloc::{AllocError, Global};
@@ -33,15 +33,15 @@ fn bytes(alloc: Global, text: &str) -> Result<Sequence<u8>, AllocError> {
     Ok(Sequence::from_vec(Vec::from_slice(alloc, text.as_bytes())?))
 }
 
-fn attributes(alloc: Global, masks: &[Mask]) -> Result<Sequence<Attribute>, AllocError> {
+fn attributes(alloc: Global, masks: &[Mask]) -> Result<Sequence<Attribute<'static>>, AllocError> {
     let mut list = Vec::new(alloc);
     list.push(Attribute {
-        name: bytes(alloc, "\\src")?,
+        name: Name::in_text("\\src".as_bytes()),
         value: Value::Text(bytes(alloc, "random")?),
     })?;
     for mask in masks {
         list.push(Attribute {
-            name: bytes(alloc, "\\mask")?,
+            name: Name::in_text("\\mask".as_bytes()),
             value: match mask {
                 Mask::Text(text) => Value::Text(bytes(alloc, text)?),
                 Mask::Number(number) => Value::Number(*number),
@@ -51,12 +51,12 @@ fn attributes(alloc: Global, masks: &[Mask]) -> Result<Sequence<Attribute>, Allo
     Ok(Sequence::from_vec(list))
 }
 
-fn items(alloc: Global, rows: &[Row]) -> Result<Vec<Item>, AllocError> {
+fn items(alloc: Global, rows: &[Row]) -> Result<Vec<Item<'static>>, AllocError> {
     let mut list = Vec::new(alloc);
     for (line, port, width, masks) in rows {
         list.push(Item::Wire(Wire {
             line: *line,
-            name: bytes(alloc, "\\w")?,
+            name: Name::in_text("\\w".as_bytes()),
             attributes: attributes(alloc, masks)?,
             width: *width,
             offset: 0,
@@ -126,7 +126,7 @@ fn cell(
     })
 }
 
-fn has_few_bits(items: &[Item]) -> bool
+fn has_few_bits(items: &[Item<'_>]) -> bool
     ensures { IsTrue result → sum_by (λ (w : AnyWire). w.width) (wires_among items.now) ≤ most_bits }
 {
     let mut bits: u32 = 0;

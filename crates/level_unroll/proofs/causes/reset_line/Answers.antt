@@ -1,4 +1,4 @@
-use Rattle.std.proofs.Common.{◌≡◌, ◌<◌, ◌≤◌, ◌+◌, ℕ, Bool, Some, length, refl, sym, ap, ◌∙◌, subst, arith}
+use Rattle.std.proofs.Common.{◌≡◌, ◌<◌, ◌+◌, ℕ, Bool, Some, length, refl, sym, ap, ◌∙◌, subst, arith}
 use Rattle.circuit_types.specs.DataSources.{cell_at}
 use Rattle.circuit_types.specs.Held.{has_open_reset}
 use Rattle.circuit_types.proofs.Cells.{cell_read}

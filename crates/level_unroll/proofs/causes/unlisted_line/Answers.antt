@@ -1,4 +1,4 @@
-use Rattle.std.proofs.Common.{not, sym, ap, ◌∙◌}
+use Rattle.std.proofs.Common.{not, ap, ◌∙◌}
 use Rattle.circuit_types.specs.Order.{has}
 use Rattle.level_unroll.specs.Queue.{is_in}
 use Rattle.level_unroll.proofs.Leasts.{same_least}

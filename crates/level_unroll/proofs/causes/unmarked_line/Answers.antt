@@ -1,4 +1,4 @@
-use Rattle.std.proofs.Common.{◌≡◌, ◌<◌, ◌≤◌, ◌+◌, ℕ, Bool, not, Some, length, refl, sym, ap, ◌∙◌, subst, arith}
+use Rattle.std.proofs.Common.{◌<◌, ◌+◌, ℕ, Bool, not, Some, length, refl, sym, ap, ◌∙◌, subst, arith}
 use Rattle.circuit_types.proofs.Cells.{cell_read}
 use Rattle.level_unroll.specs.Lines.{IsLeastLine, AtCellBelow}
 use Rattle.level_unroll.specs.Queue.{is_in}

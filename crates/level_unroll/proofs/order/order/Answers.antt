@@ -1,5 +1,4 @@
-use Rattle.std.proofs.Common.{◌≡◌, ◌<◌, ◌-◌, ◌+◌, ℕ, suc, List, [], ◌∷◌, ◌++◌, Some, None, false, true, length, set, refl, sym, ap, ◌∙◌, subst, arith}
-use Rattle.std.proofs.lemmas.List.{take_all}
+use Rattle.std.proofs.Common.{◌≡◌, ◌<◌, ◌-◌, ◌+◌, suc, Some, None, length, sym, ap, ◌∙◌, arith}
 use Rattle.circuit_types.specs.DataSources.{data_sources}
 use Rattle.circuit_types.specs.Order.{has, listed_after, order_of, next_cell}
 use Rattle.circuit_types.proofs.Listing.{listed_after-none, listed_after-some}

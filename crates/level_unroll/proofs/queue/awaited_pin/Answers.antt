@@ -1,5 +1,4 @@
-use Rattle.level_unroll.specs.Queue.{is_in}
-use Rattle.level_unroll.proofs.Waits.{pin_below, ready_pin, reads_pin}
+use Rattle.level_unroll.proofs.Waits.{pin_below, reads_pin}
 use Rattle.level_unroll.proofs.queue.awaited_pin.Goals as goal
 
 pub unlisted-requires : goal.unlisted-requires

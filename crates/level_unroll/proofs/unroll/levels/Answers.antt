@@ -1,4 +1,4 @@
-use Rattle.std.proofs.Common.{◌≡◌, ℕ, Some, None, length, sym, ap, ◌∙◌, subst}
+use Rattle.std.proofs.Common.{Some, None, ◌∙◌, subst}
 use Rattle.circuit_types.specs.DataSources.{gate_sources, data_sources}
 use Rattle.circuit_types.specs.Order.{order_of}
 use Rattle.level_unroll.proofs.Deciding.{all_within, all_listed, listed_same, resets_same, enables_same, Gates, Registers, gate_loop_due, register_loop_due, reset_due, enable_due, none_due}

@@ -1,8 +1,8 @@
-use Rattle.std.proofs.Common.{◌≡◌, ◌<◌, ℕ, [], length, get_or, map, refl, sym, ap, ◌∙◌, subst, arith, All, length-set, set}
+use Rattle.std.proofs.Common.{◌<◌, length, get_or, map, refl, sym, ap, ◌∙◌, subst, arith, All, length-set}
 use Rattle.std.specs.Option.{option_and_then}
 use Rattle.std.specs.Vec.{with_item}
 use Rattle.circuit_types.specs.InputBits.{role_in, held_bit}
-use Rattle.circuit_types.specs.DataSources.{cell_at, pin_sources, IsWithin}
+use Rattle.circuit_types.specs.DataSources.{pin_sources}
 use Rattle.circuit_types.specs.Held.{held_cell}
 use Rattle.circuit_types.proofs.Cells.{cell_read, pins_within}
 use Rattle.level_unroll.specs.Shown.{kept_value, IsKept}

@@ -1,4 +1,4 @@
-use Rattle.std.proofs.Common.{◌≡◌, ℕ, true, length, take}
+use Rattle.std.proofs.Common.{◌≡◌, true, length, take}
 use Rattle.circuit_types.specs.declared.nets.Source.{Source}
 use Rattle.circuit_types.specs.DataSources.{IsWithin}
 use Rattle.circuit_types.specs.Held.{held_value}

@@ -1,4 +1,4 @@
-use Rattle.std.proofs.Common.{◌≡◌, ◌≤◌, false, nat_le, length, replicate}
+use Rattle.std.proofs.Common.{◌≡◌, false, nat_le, length, replicate}
 use Rattle.circuit_types.specs.DataSources.{data_sources}
 use Rattle.level_unroll.specs.Queue.{IsQueue}
 use Rattle.level_unroll.proofs.queue.Queue.new.Given as goal
@@ -7,6 +7,6 @@ use Rattle.level_unroll.proofs.queue.Queue.new.Given as goal
 abbrev pub invariant-loop-cell : goal.invariant-loop-cell
 invariant-loop-cell l = record {
   flags : l.queue.listed.items ≡ replicate (length l.nets.cells) false;
-  lists : length l.queue.waiting.items ≡ length l.nets.cells;
+  numbers : length l.queue.latest.items ≡ length l.nets.cells;
   queue : IsQueue (data_sources l.timing) l.nets (λ k. nat_le l.cell k) l.queue;
 }
