@@ -11,6 +11,10 @@ use Rattle.certificate.specs.declared.fault.ReadBad.{ReadBad}
 use Rattle.certificate.specs.declared.fault.ReadBad.TheVariants.{Bad, NoMemory}
 use Rattle.certificate.specs.Lines.{line_text, IsLine}
 
+-- the most bytes of a text that is read as a certificate
+abbrev pub most_bytes : ℕ
+most_bytes = 268435456
+
 -- ---- the lines of a certificate
 
 -- the three lines before the entries

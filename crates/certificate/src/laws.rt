@@ -6,7 +6,13 @@ ghost use Rattle.certificate.specs.declared.entries.Header.{Header};
 ghost use Rattle.certificate.specs.declared.entries.Entry.{Entry};
 ghost use Rattle.certificate.specs.declared.fault.Why.{Why};
 ghost use Rattle.certificate.specs.Lines.{StandsAt};
-ghost use Rattle.certificate.specs.Certificates.{IsCertificate, IsFault};
+ghost use Rattle.certificate.specs.Certificates.{IsCertificate, IsFault, most_bytes};
+ghost use Rattle.certificate.specs.declared.reader.TheConstants.{MOST_BYTES};
+
+/// The limit of the code is that of the definitions.
+pub fn limits()
+    ensures { MOST_BYTES ≡ most_bytes }
+{}
 
 /// At most one line begins at a place.
 pub fn one_line()

@@ -7,8 +7,8 @@
 //! text that is none.
 //!
 //! [`write`] gives the text, [`read`] reads one back or answers its fault, and [`read_line`] reads the line at a place,
-//! for a checker that goes line by line. Each takes time in proportion to the bytes that it looks at. [`one_line`] and
-//! [`one_outcome`] have empty bodies: their contracts are laws of the definitions.
+//! for a checker that goes line by line. Each takes time in proportion to the bytes that it looks at. [`limits`],
+//! [`one_line`] and [`one_outcome`] have empty bodies: their contracts are laws of the definitions.
 #![tactic(auto)]
 
 mod entries;
@@ -26,7 +26,7 @@ mod writing;
 
 pub use entries::{Entries, Entry, Header};
 pub use fault::{ReadBad, Why};
-pub use laws::{one_line, one_outcome};
+pub use laws::{limits, one_line, one_outcome};
 pub use line::Line;
 pub use place::read_line;
 pub use reader::MOST_BYTES;

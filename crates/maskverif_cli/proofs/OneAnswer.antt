@@ -34,7 +34,8 @@ use Rattle.maskverif_cli.specs.declared.status.Status.{Status}
 use Rattle.maskverif_cli.specs.declared.status.Status.TheVariants.{Secure, Accepted, Unproved, Rejected, Made, Usage, Refused, NoFile, ReadFault, WriteFault, NoMemory}
 use Rattle.maskverif_cli.specs.Report.{accepted_report, rejected_report, secure_report, unproved_report, refused_report}
 use Rattle.maskverif_cli.specs.Verdict.{IsSecure, IsUnproved, IsProvableTuple, HasRank, Means, tuples_of}
-use Rattle.maskverif_cli.specs.Certificates.{HasCertificate, IsAcceptedCertificate, IsChecked, IsRejectedCertificate, most_certificate_bytes}
+use Rattle.maskverif_cli.specs.Certificates.{HasCertificate, IsAcceptedCertificate, IsChecked, IsRejectedCertificate}
+use Rattle.certificate.specs.Certificates.{most_bytes as most_certificate_bytes}
 use Rattle.maskverif_cli.specs.Answer.{Ask, IsDue, IsDueTo, IsVerdict, IsPlain, IsKept, IsRefused, OwesCertificate, Refuses, IsAcceptedFor, NewFile, HasAccepted, HasNoFile, AnswersCheck, AnswersNetlist, AnswersVerify, AskAboutAccepted, ChecksWhatWasWritten, is_decided, is_made, usage, answer, plain, kept, too_long, missing_netlist, netlist, no_netlist, refused, no_certificate, long_certificate, checked, to_verify, to_check, to_try}
 use Rattle.maskverif_cli.specs.Gadgets.{gadget_text, trial_question}
 use Rattle.maskverif_cli.proofs.Asked.{OneCommand, tried-seed, tried-shares}

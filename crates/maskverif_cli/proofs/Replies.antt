@@ -22,7 +22,8 @@ use Rattle.maskverif_cli.specs.declared.reply.Reply.{Reply}
 use Rattle.maskverif_cli.specs.declared.status.Status.{Status}
 use Rattle.maskverif_cli.specs.declared.status.Status.TheVariants.{Secure, Accepted as IsAccepted, Unproved, Rejected, Made, Usage, Refused, NoFile, ReadFault, WriteFault, NoMemory}
 use Rattle.maskverif_cli.specs.Answer.{AnswersCheck, AnswersNetlist, AnswersVerify, HasAccepted, IsDueTo, IsVerdict, NewFile, OwesCertificate, Refuses, is_answer, plain, kept, too_long, missing_netlist, netlist, no_netlist, refused, no_certificate, long_certificate, checked}
-use Rattle.maskverif_cli.specs.Certificates.{IsChecked, most_certificate_bytes}
+use Rattle.maskverif_cli.specs.Certificates.{IsChecked}
+use Rattle.certificate.specs.Certificates.{most_bytes as most_certificate_bytes}
 use Rattle.maskverif_cli.specs.Gadgets.{gadget_text, trial_question}
 use Rattle.maskverif_cli.specs.Kept.{ChecksKept, IsCertificateOf, IsSecureReport, RefusesBytes}
 use Rattle.maskverif_cli.specs.Reply.{Answering, CountsHalt, CountsReads, Ends, Gives, Halts, Lacks, new_file}

@@ -15,7 +15,8 @@ use Rattle.command_words.specs.Commands.{Means as MeansRequest, Request, CheckRe
 use Rattle.command_words.specs.Names.{texts}
 use Rattle.maskverif_cli.specs.declared.status.Status.{Status}
 use Rattle.maskverif_cli.specs.declared.status.Status.TheVariants.{Secure, Accepted, Unproved, Rejected, Made, Usage, Refused, NoFile, ReadFault, WriteFault, NoMemory}
-use Rattle.maskverif_cli.specs.Certificates.{HasCertificate, IsChecked, most_certificate_bytes}
+use Rattle.certificate.specs.Certificates.{most_bytes as most_certificate_bytes}
+use Rattle.maskverif_cli.specs.Certificates.{HasCertificate, IsChecked}
 use Rattle.maskverif_cli.specs.Gadgets.{gadget_text, trial_question}
 use Rattle.maskverif_cli.specs.Report.{usage_text, refused_report}
 use Rattle.maskverif_cli.specs.Verdict.{IsSecure, IsUnproved}

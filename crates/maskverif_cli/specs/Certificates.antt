@@ -14,10 +14,6 @@ use Rattle.maskverif_cli.specs.declared.status.Status.TheVariants.{Accepted, Rej
 use Rattle.maskverif_cli.specs.Report.{accepted_report, rejected_report}
 use Rattle.maskverif_cli.specs.Verdict.{AllProvable, Means}
 
--- the most bytes of a certificate
-abbrev pub most_certificate_bytes : ℕ
-most_certificate_bytes = 268435456
-
 -- This is the certificate of the netlist whose text the bytes are. It says what was asked and, for each family of the proof
 -- tree, in its order, the hull and the least chain; and it certifies the netlist's instance.
 pub record HasCertificate (asked : Question) (bytes certificate : List ℕ) : Type 0 where

@@ -3,7 +3,7 @@
 ghost use Rattle.std.specs.Prelude.{◌≤◌, IfOk, length};
 ghost use Rattle.accepted_netlist.specs.Known.{IsKept};
 ghost use Rattle.cert_check.specs.Outcome.{IsAccepted, IsFirstFault};
-ghost use Rattle.maskverif_cli.specs.Certificates.{most_certificate_bytes};
+ghost use Rattle.certificate.specs.Certificates.{most_bytes as most_certificate_bytes};
 ghost use Rattle.maskverif_cli.specs.Kept.{ChecksKept};
 
 use crate::reply::Reply;

@@ -5,7 +5,7 @@ use Rattle.rtlil_lex.specs.Tokens.{most_bytes}
 use Rattle.circuit_types.specs.declared.refusal.Which.TheVariants.{CertificateBytes, FileBytes}
 use Rattle.command_words.specs.Commands.{check_request}
 use Rattle.maskverif_cli.specs.Answer.{AnswersCheck}
-use Rattle.maskverif_cli.specs.Certificates.{most_certificate_bytes}
+use Rattle.certificate.specs.Certificates.{most_bytes as most_certificate_bytes}
 use Rattle.maskverif_cli.specs.Kept.{RefusesBytes}
 use Rattle.maskverif_cli.specs.Reply.{Lacks, MayFail}
 use Rattle.maskverif_cli.proofs.Before.{lacks-before, whole-before}
