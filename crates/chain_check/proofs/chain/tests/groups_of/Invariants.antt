@@ -1,9 +1,0 @@
-use Rattle.std.proofs.Common.{◌≡◌, ◌<◌, All, IfSome, length}
-use Rattle.chain_check.proofs.chain.tests.groups_of.Given as goal
-
--- the leaves so far have their groups
-abbrev pub invariant-loop-leaf : goal.invariant-loop-leaf
-invariant-loop-leaf l = record {
-  each : length l.groups.items ≡ l.leaf;
-  within : All (λ group. IfSome group (λ secret. secret < l.inputs)) l.groups.items;
-}

@@ -1,6 +1,0 @@
-use Rattle.std.proofs.Common.{◌≡◌, length}
-use Rattle.extend_set.proofs.growth.tests.grow_one_by_one.Given as goal
-
--- the set keeps its length
-abbrev pub invariant-loop-p : goal.invariant-loop-p
-invariant-loop-p l = length l.set ≡ length l.fn.set

@@ -1,7 +1,0 @@
-use Rattle.std.proofs.Common.{ℕ, ◌<◌}
-use Rattle.std.specs.Prelude.{IsTrue}
-use Rattle.bit_rows.specs.Sets.{is_in}
-use Rattle.family_split.proofs.tests.are_apart.Given as goal
-
-abbrev pub invariant-loop-p : goal.invariant-loop-p
-invariant-loop-p l = (q : ℕ) → q < l.p → IsTrue (is_in l.part.set q) → IsTrue (is_in l.other.set q) → ⊥

@@ -1,5 +1,0 @@
-use Rattle.live_rows.proofs.tests.cuts_a_masked_bit.Given as goal
-
--- the ledger is the one of the blank
-abbrev pub ghosts-unmask : goal.ghosts-unmask
-ghosts-unmask g a = record { name = a.blank.name; parts = a.blank.parts }

@@ -1,5 +1,0 @@
-use Rattle.sim_rules.proofs.engine.tests.expect.Given as goal
-
--- the ledger is the blank's own
-abbrev pub ghosts-decide_counted : goal.ghosts-decide_counted
-ghosts-decide_counted g a = record { name = a.blank.name; parts = a.blank.parts }
