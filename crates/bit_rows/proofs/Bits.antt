@@ -10,7 +10,7 @@ use Rattle.std.specs.Int.Count.{ones-ones}
 use Rattle.std.specs.Int.Bits.{or_zero_l}
 use Rattle.bit_rows.specs.Sets.{is_in, members_below, members}
 use Rattle.bit_rows.proofs.Facts.{is_in-set_of, length-set_of, length-members_in, length-members_out}
-use Rattle.bit_rows.specs.Words.{bit_of, bits, IsFirstBit}
+use Rattle.bit_rows.specs.Words.{words_bit, bits, IsFirstBit}
 
 -- ---- a bit as a truth
 
@@ -68,39 +68,39 @@ word_bit-none j = ap truth (bit_at-zero j)
 
 -- ---- the bits of words
 
-pub bit_of-is : (words : List ℕ) (i : ℕ) → bit_of words i ≡ word_bit (slice_index words (i / 64)) (i % 64)
-unfolding bit_of
-bit_of-is words i = refl
+pub words_bit-is : (words : List ℕ) (i : ℕ) → words_bit words i ≡ word_bit (slice_index words (i / 64)) (i % 64)
+unfolding words_bit
+words_bit-is words i = refl
 
 -- bit j of word k
-pub bit_of-at : (words : List ℕ) (k j : ℕ) → j < 64 → bit_of words (k * 64 + j) ≡ word_bit (slice_index words k) j
-bit_of-at words k j lt =
-    bit_of-is words (k * 64 + j)
+pub words_bit-at : (words : List ℕ) (k j : ℕ) → j < 64 → words_bit words (k * 64 + j) ≡ word_bit (slice_index words k) j
+words_bit-at words k j lt =
+    words_bit-is words (k * 64 + j)
     ∙ ap (λ m. word_bit (slice_index words m) ((k * 64 + j) % 64)) (div-mul-add k 64 j lt)
     ∙ ap (word_bit (slice_index words k)) (mod-mul-add k 64 j lt)
 
 place_in : (i : ℕ) → i % 64 < 64
 place_in i = omega arith
 
-pub bit_of-past : (words : List ℕ) (i : ℕ) → length words ≤ i / 64 → bit_of words i ≡ false
-bit_of-past words i past = bit_of-is words i ∙ ap (λ w. word_bit w (i % 64)) (get_or_past words (i / 64) 0 past) ∙ word_bit-none (i % 64)
+pub words_bit-past : (words : List ℕ) (i : ℕ) → length words ≤ i / 64 → words_bit words i ≡ false
+words_bit-past words i past = words_bit-is words i ∙ ap (λ w. word_bit w (i % 64)) (get_or_past words (i / 64) 0 past) ∙ word_bit-none (i % 64)
 
 -- ---- words that are joined word by word
 
 pub joined_bits : (f : Bool → Bool → Bool) (op : ℕ → ℕ → ℕ) (xs ys zs : List ℕ) → f false false ≡ false → length xs ≡ length zs → length ys ≡ length zs
     → ((k j : ℕ) → j < 64 → word_bit (op (slice_index xs k) (slice_index ys k)) j ≡ f (word_bit (slice_index xs k) j) (word_bit (slice_index ys k) j))
-    → ((k : ℕ) → k < length zs → slice_index zs k ≡ op (slice_index xs k) (slice_index ys k)) → (i : ℕ) → bit_of zs i ≡ f (bit_of xs i) (bit_of ys i)
+    → ((k : ℕ) → k < length zs → slice_index zs k ≡ op (slice_index xs k) (slice_index ys k)) → (i : ℕ) → words_bit zs i ≡ f (words_bit xs i) (words_bit ys i)
 joined_bits f op xs ys zs none xs_len ys_len word each i =
     ⊎_elim
     (λ lt.
-    bit_of-is zs i
+    words_bit-is zs i
     ∙ ap (λ w. word_bit w (i % 64)) (each (i / 64) lt)
     ∙ word (i / 64) (i % 64) (place_in i)
-    ∙ sym (ap (λ b. f b (bit_of ys i)) (bit_of-is xs i) ∙ ap (f (word_bit (slice_index xs (i / 64)) (i % 64))) (bit_of-is ys i)))
+    ∙ sym (ap (λ b. f b (words_bit ys i)) (words_bit-is xs i) ∙ ap (f (word_bit (slice_index xs (i / 64)) (i % 64))) (words_bit-is ys i)))
     (λ past.
-    bit_of-past zs i past
+    words_bit-past zs i past
     ∙ sym none
-    ∙ sym (ap (λ b. f b (bit_of ys i)) (bit_of-past xs i (omega arith)) ∙ ap (f false) (bit_of-past ys i (omega arith))))
+    ∙ sym (ap (λ b. f b (words_bit ys i)) (words_bit-past xs i (omega arith)) ∙ ap (f false) (words_bit-past ys i (omega arith))))
     (cases_lt (i / 64) (length zs))
 
 -- a word without bits outside another
@@ -134,17 +134,17 @@ outside_more outside more k P before here = (
 
 -- no word has bits outside the other's exactly where no bit is outside
 pub within_from_words : (xs ys : List ℕ) → length xs ≡ length ys → ((k : ℕ) → slice_index ys k < 2 ^ 64) → ((k : ℕ) → k < length xs → bit_and (slice_index xs k) (bit_not w64 (slice_index ys k)) ≡ 0)
-    → (i : ℕ) → bit_of xs i ≡ true → bit_of ys i ≡ true
+    → (i : ℕ) → words_bit xs i ≡ true → words_bit ys i ≡ true
 within_from_words xs ys len fits none i is =
     ⊎_elim
-    (λ lt. bit_of-is ys i ∙ none_outside (slice_index xs (i / 64)) (slice_index ys (i / 64)) (i % 64) (fits (i / 64)) (place_in i) (none (i / 64) lt) (sym (bit_of-is xs i) ∙ is))
-    (λ past. absurd (both_ways (bit_of xs i) (bit_of-past xs i past) is))
+    (λ lt. words_bit-is ys i ∙ none_outside (slice_index xs (i / 64)) (slice_index ys (i / 64)) (i % 64) (fits (i / 64)) (place_in i) (none (i / 64) lt) (sym (words_bit-is xs i) ∙ is))
+    (λ past. absurd (both_ways (words_bit xs i) (words_bit-past xs i past) is))
     (cases_lt (i / 64) (length xs))
 
-pub words_from_within : (xs ys : List ℕ) → ((k : ℕ) → slice_index xs k < 2 ^ 64) → ((k : ℕ) → slice_index ys k < 2 ^ 64) → ((i : ℕ) → bit_of xs i ≡ true → bit_of ys i ≡ true)
+pub words_from_within : (xs ys : List ℕ) → ((k : ℕ) → slice_index xs k < 2 ^ 64) → ((k : ℕ) → slice_index ys k < 2 ^ 64) → ((i : ℕ) → words_bit xs i ≡ true → words_bit ys i ≡ true)
     → (k : ℕ) → bit_and (slice_index xs k) (bit_not w64 (slice_index ys k)) ≡ 0
 words_from_within xs ys xs_fit ys_fit each k =
-    all_inside (slice_index xs k) (slice_index ys k) (xs_fit k) (ys_fit k) (λ j lt is. sym (bit_of-at ys k j lt) ∙ each (k * 64 + j) (bit_of-at xs k j lt ∙ is))
+    all_inside (slice_index xs k) (slice_index ys k) (xs_fit k) (ys_fit k) (λ j lt is. sym (words_bit-at ys k j lt) ∙ each (k * 64 + j) (words_bit-at xs k j lt ∙ is))
 
 -- ---- one bit is written
 
@@ -152,28 +152,28 @@ module _ (words : List ℕ) (i : ℕ) (within : i / 64 < length words) (w : ℕ)
   written : List ℕ
   written = slice_set words (i / 64) w
 
-  other_word : (k : ℕ) → (k / 64 ≡ i / 64 → ⊥) → bit_of (slice_set words (i / 64) w) k ≡ bit_of words k
+  other_word : (k : ℕ) → (k / 64 ≡ i / 64 → ⊥) → words_bit (slice_set words (i / 64) w) k ≡ words_bit words k
   other_word k other =
-      bit_of-is (slice_set words (i / 64) w) k ∙ ap (λ v. word_bit v (k % 64)) (get_or-set_other words (i / 64) (k / 64) w 0 other) ∙ sym (bit_of-is words k)
+      words_bit-is (slice_set words (i / 64) w) k ∙ ap (λ v. word_bit v (k % 64)) (get_or-set_other words (i / 64) (k / 64) w 0 other) ∙ sym (words_bit-is words k)
 
-  same_word : (k : ℕ) → k / 64 ≡ i / 64 → bit_of (slice_set words (i / 64) w) k ≡ word_bit w (k % 64)
+  same_word : (k : ℕ) → k / 64 ≡ i / 64 → words_bit (slice_set words (i / 64) w) k ≡ word_bit w (k % 64)
   same_word k same =
-      bit_of-is (slice_set words (i / 64) w) k
+      words_bit-is (slice_set words (i / 64) w) k
       ∙ ap (λ m. word_bit (slice_index (slice_set words (i / 64) w) m) (k % 64)) same
       ∙ ap (λ v. word_bit v (k % 64)) (get_or-set_same words (i / 64) w 0 within)
 
-  pub wrote_same : word_bit w (i % 64) ≡ true → bit_of (slice_set words (i / 64) w) i ≡ true
+  pub wrote_same : word_bit w (i % 64) ≡ true → words_bit (slice_set words (i / 64) w) i ≡ true
   wrote_same is = same_word i refl ∙ is
 
-  pub wrote_same_off : word_bit w (i % 64) ≡ false → bit_of (slice_set words (i / 64) w) i ≡ false
+  pub wrote_same_off : word_bit w (i % 64) ≡ false → words_bit (slice_set words (i / 64) w) i ≡ false
   wrote_same_off is = same_word i refl ∙ is
 
-  pub wrote_other : ((j : ℕ) → j < 64 → j ≢ i % 64 → word_bit w j ≡ word_bit (slice_index words (i / 64)) j) → (k : ℕ) → (k ≡ i → ⊥) → bit_of (slice_set words (i / 64) w) k ≡ bit_of words k
+  pub wrote_other : ((j : ℕ) → j < 64 → j ≢ i % 64 → word_bit w j ≡ word_bit (slice_index words (i / 64)) j) → (k : ℕ) → (k ≡ i → ⊥) → words_bit (slice_set words (i / 64) w) k ≡ words_bit words k
   wrote_other others k other =
       ⊎_elim
       (λ same.
       let apart : k % 64 ≢ i % 64 = λ e. other (omega (arith, same, e)) in
-      same_word k same ∙ others (k % 64) (place_in k) apart ∙ ap (λ m. word_bit (slice_index words m) (k % 64)) (sym same) ∙ sym (bit_of-is words k))
+      same_word k same ∙ others (k % 64) (place_in k) apart ∙ ap (λ m. word_bit (slice_index words m) (k % 64)) (sym same) ∙ sym (words_bit-is words k))
       (λ apart. other_word k apart)
       (cases_eq (k / 64) (i / 64))
 
@@ -196,20 +196,20 @@ shifted_bit : (w s j : ℕ) → word_bit (w / 2 ^ s) j ≡ word_bit w (s + j)
 shifted_bit w s j = ap (λ x. truth (x % 2)) (div-div-eq-div-mul w (2 ^ s) (2 ^ j) ∙ ap (λ m. w / m) (sym (pow-add 2 s j)))
 
 -- the bits of the word of `start`, from `start` on
-rest_bit : (words : List ℕ) (start j : ℕ) → start % 64 + j < 64 → word_bit (slice_index words (start / 64) / 2 ^ (start % 64)) j ≡ bit_of words (start + j)
+rest_bit : (words : List ℕ) (start j : ℕ) → start % 64 + j < 64 → word_bit (slice_index words (start / 64) / 2 ^ (start % 64)) j ≡ words_bit words (start + j)
 rest_bit words start j lt =
     let place : start / 64 * 64 + (start % 64 + j) ≡ start + j = omega arith in
-    shifted_bit (slice_index words (start / 64)) (start % 64) j ∙ sym (bit_of-at words (start / 64) (start % 64 + j) lt) ∙ ap (bit_of words) place
+    shifted_bit (slice_index words (start / 64)) (start % 64) j ∙ sym (words_bit-at words (start / 64) (start % 64 + j) lt) ∙ ap (words_bit words) place
 
-pub none_in_rest : (words : List ℕ) (start : ℕ) → slice_index words (start / 64) / 2 ^ (start % 64) ≡ 0 → (i : ℕ) → start ≤ i → i < start / 64 * 64 + 64 → bit_of words i ≡ false
+pub none_in_rest : (words : List ℕ) (start : ℕ) → slice_index words (start / 64) / 2 ^ (start % 64) ≡ 0 → (i : ℕ) → start ≤ i → i < start / 64 * 64 + 64 → words_bit words i ≡ false
 none_in_rest words start none i from lt =
     let e : start + (i - start) ≡ i = omega arith in
-    ap (bit_of words) (sym e) ∙ sym (rest_bit words start (i - start) (omega arith)) ∙ ap (λ w. word_bit w (i - start)) none ∙ word_bit-none (i - start)
+    ap (words_bit words) (sym e) ∙ sym (rest_bit words start (i - start) (omega arith)) ∙ ap (λ w. word_bit w (i - start)) none ∙ word_bit-none (i - start)
 
-pub none_in_word : (words : List ℕ) (k : ℕ) → slice_index words k ≡ 0 → (i : ℕ) → k * 64 ≤ i → i < k * 64 + 64 → bit_of words i ≡ false
+pub none_in_word : (words : List ℕ) (k : ℕ) → slice_index words k ≡ 0 → (i : ℕ) → k * 64 ≤ i → i < k * 64 + 64 → words_bit words i ≡ false
 none_in_word words k none i from lt =
     let e : k * 64 + (i - k * 64) ≡ i = omega arith in
-    ap (bit_of words) (sym e) ∙ bit_of-at words k (i - k * 64) (omega arith) ∙ ap (λ w. word_bit w (i - k * 64)) none ∙ word_bit-none (i - k * 64)
+    ap (words_bit words) (sym e) ∙ words_bit-at words k (i - k * 64) (omega arith) ∙ ap (λ w. word_bit w (i - k * 64)) none ∙ word_bit-none (i - k * 64)
 
 -- the first bit of a word that is not 0, read by its trailing zeros
 first_in : (w : ℕ) → 0 < w → w < 2 ^ 64 → (trailing_zeros w64 w < 64) × (word_bit w (trailing_zeros w64 w) ≡ true) × ((j : ℕ) → j < trailing_zeros w64 w → word_bit w j ≡ false)
@@ -230,20 +230,20 @@ first_in_rest words start w is some fits word_fits =
       is_set = sym (rest_bit words start zeros in_word) ∙ ap (λ v. word_bit v zeros) (sym is) ∙ first.1;
       before = λ j from lt.
           let e : start + (j - start) ≡ j = omega arith in
-          ap (bit_of words) (sym e) ∙ sym (rest_bit words start (j - start) (omega (arith, in_word))) ∙ ap (λ v. word_bit v (j - start)) (sym is) ∙ first.2 (j - start) (omega arith);
+          ap (words_bit words) (sym e) ∙ sym (rest_bit words start (j - start) (omega (arith, in_word))) ∙ ap (λ v. word_bit v (j - start)) (sym is) ∙ first.2 (j - start) (omega arith);
     }
 
-pub first_in_word : (words : List ℕ) (start k w : ℕ) → w ≡ slice_index words k → 0 < w → w < 2 ^ 64 → start ≤ k * 64 → ((i : ℕ) → start ≤ i → i < k * 64 → bit_of words i ≡ false) → IsFirstBit words start (k * 64 + trailing_zeros w64 w)
+pub first_in_word : (words : List ℕ) (start k w : ℕ) → w ≡ slice_index words k → 0 < w → w < 2 ^ 64 → start ≤ k * 64 → ((i : ℕ) → start ≤ i → i < k * 64 → words_bit words i ≡ false) → IsFirstBit words start (k * 64 + trailing_zeros w64 w)
 first_in_word words start k w is some fits from before =
     let first = first_in w some fits in
     record {
       from = omega arith;
-      is_set = bit_of-at words k (trailing_zeros w64 w) first.0 ∙ ap (λ v. word_bit v (trailing_zeros w64 w)) (sym is) ∙ first.1;
+      is_set = words_bit-at words k (trailing_zeros w64 w) first.0 ∙ ap (λ v. word_bit v (trailing_zeros w64 w)) (sym is) ∙ first.1;
       before = λ j from_j lt. ⊎_elim
           (λ earlier. before j from_j earlier)
           (λ later.
           let e : k * 64 + (j - k * 64) ≡ j = omega arith in
-          ap (bit_of words) (sym e) ∙ bit_of-at words k (j - k * 64) (omega (arith, first.0)) ∙ ap (λ v. word_bit v (j - k * 64)) (sym is) ∙ first.2 (j - k * 64) (omega arith))
+          ap (words_bit words) (sym e) ∙ words_bit-at words k (j - k * 64) (omega (arith, first.0)) ∙ ap (λ v. word_bit v (j - k * 64)) (sym is) ∙ first.2 (j - k * 64) (omega arith))
           (cases_lt j (k * 64));
     }
 
@@ -276,7 +276,7 @@ ones-word w fits = ap count_ones (sym (mod-eq_of_lt fits)) ∙ ones-below w 64
 
 module _ (words : List ℕ) (k : ℕ) (within : k < length words) where
   word_in : (j : ℕ) → j < 64 → is_in (bits words) (k * 64 + j) ≡ word_bit (slice_index words k) j
-  word_in j lt = is_in-set_of (64 * length words) (bit_of words) (k * 64 + j) (omega arith) ∙ bit_of-at words k j lt
+  word_in j lt = is_in-set_of (64 * length words) (words_bit words) (k * 64 + j) (omega arith) ∙ words_bit-at words k j lt
 
   word_members : (m : ℕ) → m ≤ 64 → length (members_below (bits words) (k * 64 + m)) ≡ length (members_below (bits words) (k * 64)) + bits_below (slice_index words k) m
   word_members zero le = let e : k * 64 + 0 ≡ k * 64 = omega arith in ap (λ n. length (members_below (bits words) n)) e ∙ omega arith
@@ -307,4 +307,4 @@ module _ (words : List ℕ) (k : ℕ) (within : k < length words) where
 pub counted_all : (words : List ℕ) (k : ℕ) → k ≡ length words → members_below (bits words) (k * 64) ≡ members (bits words)
 counted_all words k is =
     let e : k * 64 ≡ 64 * length words = omega arith in
-    ap (members_below (bits words)) (e ∙ sym (length-set_of (64 * length words) (bit_of words)))
+    ap (members_below (bits words)) (e ∙ sym (length-set_of (64 * length words) (words_bit words)))

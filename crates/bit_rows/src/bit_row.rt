@@ -2,9 +2,6 @@
 ghost use Rattle.std.specs.Prelude.{◌≡◌, ◌<◌, ◌^◌, ◌↔◌, IsTrue, false, true, length, replicate, slice_set, nat_le, find, IfOk};
 ghost use Rattle.bit_rows.specs.Sets.{is_in, members, union, minus, meet, is_subset, first_member, next_member};
 
-#[cfg(test)]
-mod tests;
-
 use crate::{NoMemory, words};
 use std::alloc::Global;
 use std::marker::Model;
@@ -19,11 +16,11 @@ pub struct BitRow {
 impl Model for BitRow {
     ghost use Rattle.std.specs.Prelude.{Bool, List};
     ghost use Rattle.bit_rows.specs.Sets.{set_of};
-    ghost use Rattle.bit_rows.specs.Words.{bit_of, IsRow};
+    ghost use Rattle.bit_rows.specs.Words.{words_bit, IsRow};
 
     ghost Value = { List Bool };
 
-    ghost view = { λ row. set_of row.len (bit_of row.words.items) };
+    ghost view = { λ row. set_of row.len (words_bit row.words.items) };
 
     ghost invariant = { λ row. IsRow row.len row.words.items };
 }

@@ -1,12 +1,12 @@
 //! The bits of words of 64 bits, counted from the lowest bit of the first word on.
 ghost use Rattle.std.specs.Prelude.{◌≡◌, ◌≢◌, ◌*◌, ◌<◌, ◌^◌, ◌↔◌, ◌&&◌, ◌||◌, ℕ, IsTrue, MatchOption, not, false, true, length};
 ghost use Rattle.bit_rows.specs.Sets.{members};
-ghost use Rattle.bit_rows.specs.Words.{bit_of, bits, IsFirstBit, NoBitFrom};
+ghost use Rattle.bit_rows.specs.Words.{words_bit, bits, IsFirstBit, NoBitFrom};
 
 /// Whether a bit is set.
 pub fn get(words: &[u64], i: u32) -> bool
     requires { i < 64 * length words.now }
-    ensures { result ≡ bit_of words.now i }
+    ensures { result ≡ words_bit words.now i }
 {
     words[i as usize / 64] >> (i % 64) & 1 == 1
 }
@@ -14,8 +14,8 @@ pub fn get(words: &[u64], i: u32) -> bool
 /// Sets a bit.
 pub fn set(words: &mut [u64], i: u32)
     requires { i < 64 * length words.old }
-    ensures bit { bit_of words.new i ≡ true }
-    ensures others { (k : ℕ) → k ≢ i → bit_of words.new k ≡ bit_of words.old k }
+    ensures bit { words_bit words.new i ≡ true }
+    ensures others { (k : ℕ) → k ≢ i → words_bit words.new k ≡ words_bit words.old k }
 {
     words[i as usize / 64] |= 1 << (i % 64);
 }
@@ -23,8 +23,8 @@ pub fn set(words: &mut [u64], i: u32)
 /// Clears a bit.
 pub fn clear(words: &mut [u64], i: u32)
     requires { i < 64 * length words.old }
-    ensures bit { bit_of words.new i ≡ false }
-    ensures others { (k : ℕ) → k ≢ i → bit_of words.new k ≡ bit_of words.old k }
+    ensures bit { words_bit words.new i ≡ false }
+    ensures others { (k : ℕ) → k ≢ i → words_bit words.new k ≡ words_bit words.old k }
 {
     words[i as usize / 64] &= !(1 << (i % 64));
 }
@@ -32,7 +32,7 @@ pub fn clear(words: &mut [u64], i: u32)
 /// Sets each bit that is set in the other words.
 pub fn set_all(words: &mut [u64], other: &[u64])
     requires { length words.old ≡ length other.now }
-    ensures { (i : ℕ) → bit_of words.new i ≡ (bit_of words.old i || bit_of other.now i) }
+    ensures { (i : ℕ) → words_bit words.new i ≡ (words_bit words.old i || words_bit other.now i) }
 {
     for k in 0..words.len() {
         words[k] |= other[k];
@@ -42,7 +42,7 @@ pub fn set_all(words: &mut [u64], other: &[u64])
 /// Clears each bit that is set in the other words.
 pub fn clear_all(words: &mut [u64], other: &[u64])
     requires { length words.old ≡ length other.now }
-    ensures { (i : ℕ) → bit_of words.new i ≡ (bit_of words.old i && not (bit_of other.now i)) }
+    ensures { (i : ℕ) → words_bit words.new i ≡ (words_bit words.old i && not (words_bit other.now i)) }
 {
     for k in 0..words.len() {
         words[k] &= !other[k];
@@ -52,7 +52,7 @@ pub fn clear_all(words: &mut [u64], other: &[u64])
 /// Clears each bit that is not set in the other words.
 pub fn clear_others(words: &mut [u64], other: &[u64])
     requires { length words.old ≡ length other.now }
-    ensures { (i : ℕ) → bit_of words.new i ≡ (bit_of words.old i && bit_of other.now i) }
+    ensures { (i : ℕ) → words_bit words.new i ≡ (words_bit words.old i && words_bit other.now i) }
 {
     for k in 0..words.len() {
         words[k] &= other[k];
@@ -62,7 +62,7 @@ pub fn clear_others(words: &mut [u64], other: &[u64])
 /// Whether each bit that is set is set in the other words too.
 pub fn are_within(words: &[u64], other: &[u64]) -> bool
     requires { length words.now ≡ length other.now }
-    ensures { IsTrue result ↔ ((i : ℕ) → bit_of words.now i ≡ true → bit_of other.now i ≡ true) }
+    ensures { IsTrue result ↔ ((i : ℕ) → words_bit words.now i ≡ true → words_bit other.now i ≡ true) }
 {
     let mut outside = 0;
     for k in 0..words.len() {

@@ -18,8 +18,8 @@ use Rattle.live_rows.proofs.Counted.{cuts_within}
 use Rattle.live_rows.proofs.Numbers.{length_within}
 use Rattle.chain_check.specs.declared.answer.ChainAnswer.{ChainAnswer}
 use Rattle.chain_check.specs.declared.answer.ChainAnswer.TheVariants.{Holds, BadCut, OverBound}
-use Rattle.chain_check.specs.Answer.{IsAnswer, IsFirstBad}
-use Rattle.chain_check.specs.Made.{AreMade}
+use Rattle.chain_check.specs.Answer.{IsAnswer, IsFirstBadCut}
+use Rattle.chain_check.specs.Made.{CutsAreMade}
 
 -- the cuts up to a place and the one at it
 pub cuts_of-more : (cuts : List Row) (place : ℕ) → place < length cuts → cuts_of (take (place + 1) cuts) ≡ slice_index (numbers cuts) place ∷ cuts_of (take place cuts)
@@ -35,10 +35,10 @@ chain_distinct nodes roots (e ∷ cuts) chain =
     and_from (not (has cuts e)) (are_distinct cuts) (and_parts (not (has cuts e)) (is_masked nodes roots cuts e (node_at nodes e)) chain.0).0 (chain_distinct nodes roots cuts chain.1)
 
 module _ (nodes : List Node) (roots : List ℕ) (cuts : List Row) where
-  module _ (place : ℕ) (marks : List Mark) (made : AreMade nodes roots (take place cuts) marks) where
+  module _ (place : ℕ) (marks : List Mark) (made : CutsAreMade nodes roots (take place cuts) marks) where
     -- one more cut is made, where it is allowed
     pub made_more : (row : ℕ) (new : List Mark) → place < length cuts → row ≡ slice_index (numbers cuts) place → is_allowed nodes roots (cuts_of (take place cuts)) row ≡ true
-        → Shows nodes roots (row ∷ cuts_of (take place cuts)) new → AreMade nodes roots (take (place + 1) cuts) new
+        → Shows nodes roots (row ∷ cuts_of (take place cuts)) new → CutsAreMade nodes roots (take (place + 1) cuts) new
     made_more row new lt at allowed shows =
         let more : cuts_of (take (place + 1) cuts) ≡ row ∷ cuts_of (take place cuts) = cuts_of-more cuts place lt ∙ ap (λ r. r ∷ cuts_of (take place cuts)) (sym at) in
         record {
@@ -47,7 +47,7 @@ module _ (nodes : List Node) (roots : List ℕ) (cuts : List Row) where
         }
 
     -- and else it is the first that is not
-    pub made_bad : (row : ℕ) → place < length cuts → row ≡ slice_index (numbers cuts) place → is_allowed nodes roots (cuts_of (take place cuts)) row ≡ false → IsFirstBad nodes roots cuts place
+    pub made_bad : (row : ℕ) → place < length cuts → row ≡ slice_index (numbers cuts) place → is_allowed nodes roots (cuts_of (take place cuts)) row ≡ false → IsFirstBadCut nodes roots cuts place
     made_bad row lt at bad = record {
       within = lt;
       before = made.chain;
@@ -65,8 +65,8 @@ module _ (nodes : List Node) (roots : List ℕ) (cuts : List Row) where
         omega arith
 
   -- all cuts are made
-  pub made_all : (place : ℕ) (marks : List Mark) → length cuts ≤ place → AreMade nodes roots (take place cuts) marks → AreMade nodes roots cuts marks
-  made_all place marks le made = subst (λ (rows : List Row). AreMade nodes roots rows marks) (take_all place cuts le) made
+  pub made_all : (place : ℕ) (marks : List Mark) → length cuts ≤ place → CutsAreMade nodes roots (take place cuts) marks → CutsAreMade nodes roots cuts marks
+  made_all place marks le made = subst (λ (rows : List Row). CutsAreMade nodes roots rows marks) (take_all place cuts le) made
 
   -- a front of a chain is a chain, and the cut after it is allowed
   chain_front : (k n : ℕ) → n ≤ length cuts → IsChain nodes roots (cuts_of (take n cuts)) → k < n
@@ -81,18 +81,18 @@ module _ (nodes : List Node) (roots : List ℕ) (cuts : List Row) where
       (cases_lt k n)
 
   -- so a list with a first bad cut is no chain
-  pub bad_no_chain : (place : ℕ) → IsFirstBad nodes roots cuts place → IsChain nodes roots (cuts_of cuts) → ⊥
+  pub bad_no_chain : (place : ℕ) → IsFirstBadCut nodes roots cuts place → IsChain nodes roots (cuts_of cuts) → ⊥
   bad_no_chain place bad chain =
       both_ways _ bad.bad
       (chain_front place (length cuts) (omega arith) (subst (λ (rows : List Row). IsChain nodes roots (cuts_of rows)) (sym (take_all (length cuts) cuts (omega arith))) chain) bad.within)
 
   -- and only one cut is the first
-  first_bad_once : (place other : ℕ) → IsFirstBad nodes roots cuts place → IsFirstBad nodes roots cuts other → place < other → ⊥
+  first_bad_once : (place other : ℕ) → IsFirstBadCut nodes roots cuts place → IsFirstBadCut nodes roots cuts other → place < other → ⊥
   first_bad_once place other first second lt =
       let le : other ≤ length cuts = omega (arith, second.within) in
       both_ways _ first.bad (chain_front place other le second.before lt)
 
-  pub same_place : (place other : ℕ) → IsFirstBad nodes roots cuts place → IsFirstBad nodes roots cuts other → place ≡ other
+  pub same_place : (place other : ℕ) → IsFirstBadCut nodes roots cuts place → IsFirstBadCut nodes roots cuts other → place ≡ other
   same_place place other first second =
       ⊎_elim (λ lt. absurd (first_bad_once place other first second lt))
       (λ le. ⊎_elim (λ lt. absurd (first_bad_once other place second first lt)) (λ ge. omega arith) (cases_lt other place))

@@ -2,13 +2,13 @@
 use Rattle.std.proofs.Common.{◌≡◌, ℕ, ◌<◌, Bool, true, false, not, ◌&&◌, ◌||◌, ◌==◌, List, length, refl, sym, ap, ◌∙◌, subst, arith, ⊎_elim, inr}
 use Rattle.std.specs.Int.{from_bool}
 use Rattle.std.proofs.lemmas.Bool.{cases_Bool, and_parts, or_cases, or_right, eqb-true, eq-eqb, not-true, false_from_ne_true}
+use Rattle.std.proofs.Math.Bool.{and_assoc, or_comm}
 use Rattle.expr_table.specs.declared.node.Node.{Node}
 use Rattle.expr_table.specs.declared.node.Node.TheVariants as node
 use Rattle.expr_table.specs.declared.node.Row.{Row}
 use Rattle.expr_table.specs.Table.{node_at, sides, has}
 use Rattle.once_random.specs.Cuts.{is_random, is_fresh, has_no_parent_but, masks, is_masked, is_allowed}
-use Rattle.once_random.specs.Cutting.{live_parents}
-use Rattle.once_random.specs.Live.{is_live, is_live_parent}
+use Rattle.once_random.specs.Live.{is_live, is_live_parent, live_parents}
 use Rattle.once_random.specs.Numbers.{all_below, count_below}
 use Rattle.once_random.proofs.Alone.{alone}
 use Rattle.once_random.proofs.Facts.{all_below-at, all_below-from, count_none, count_some, same_tests, has_left, has_right}
@@ -26,16 +26,6 @@ none_but test n e fails =
     (λ none. all_below-from n (λ i. i == e || not (test i)) (λ i l.
     or_right (i == e) (not (test i)) (ap not (false_from_ne_true (test i) (λ t.
     let some = count_some test n i l t in let zero : count_below n test ≡ 0 = eqb-true _ 0 none in omega arith)))))
-
-and_assoc : (a b c : Bool) → ((a && b) && c) ≡ (a && (b && c))
-and_assoc true b c = refl
-and_assoc false b c = refl
-
-or_turned : (a b : Bool) → (a || b) ≡ (b || a)
-or_turned true true = refl
-or_turned true false = refl
-or_turned false true = refl
-or_turned false false = refl
 
 and_both : (b : Bool) → ((b && true) && true) ≡ b
 and_both true = refl
@@ -62,7 +52,7 @@ module _ (nodes : List Node) (roots cuts : List ℕ) (e side : ℕ) (lt : e < le
       → fresh ≡ ((mark_at marks side).cut || is_random (node_at nodes side)) → root ≡ (mark_at marks side).root → parents ≡ (mark_at marks side).parents → itself ≡ from_bool (mark_at marks e).live
       → ((fresh && not root) && (parents == itself)) ≡ masks nodes roots cuts e side
   masks_by marks shows fresh root parents itself fresh_is root_is parents_is itself_is =
-      ap (λ b. (b && not root) && (parents == itself)) (fresh_is ∙ ap (λ b. b || is_random (node_at nodes side)) (shows.cut side) ∙ or_turned (has cuts side) (is_random (node_at nodes side)))
+      ap (λ b. (b && not root) && (parents == itself)) (fresh_is ∙ ap (λ b. b || is_random (node_at nodes side)) (shows.cut side) ∙ or_comm (has cuts side) (is_random (node_at nodes side)))
       ∙ ap (λ b. (is_fresh nodes cuts side && not b) && (parents == itself)) (root_is ∙ shows.root side)
       ∙ ap (λ k. (is_fresh nodes cuts side && not (has roots side)) && (k == itself)) (parents_is ∙ shows.parents side)
       ∙ ap (λ k. (is_fresh nodes cuts side && not (has roots side)) && (live_parents nodes roots cuts side == k)) (itself_is ∙ ap from_bool (shows.live e))

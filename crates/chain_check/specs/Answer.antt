@@ -10,7 +10,7 @@ use Rattle.chain_check.specs.declared.answer.ChainAnswer.{ChainAnswer}
 use Rattle.chain_check.specs.declared.answer.ChainAnswer.TheVariants.{Holds, BadCut, OverBound}
 
 -- the cuts before this place are a chain, and the one at this place is not allowed after them
-pub record IsFirstBad (nodes : List Node) (roots : List ℕ) (cuts : List Row) (place : ℕ) : Type 0 where
+pub record IsFirstBadCut (nodes : List Node) (roots : List ℕ) (cuts : List Row) (place : ℕ) : Type 0 where
   pub within : place < length cuts
   pub before : IsChain nodes roots (cuts_of (take place cuts))
   pub bad : IsFalse (is_allowed nodes roots (cuts_of (take place cuts)) (slice_index (numbers cuts) place))
@@ -21,4 +21,4 @@ IsAnswer x roots m cuts Holds =
     IsChain x.table.nodes roots (cuts_of cuts) × IsTrue (is_within x roots (cuts_of cuts) m)
 IsAnswer x roots m cuts OverBound =
     IsChain x.table.nodes roots (cuts_of cuts) × IsFalse (is_within x roots (cuts_of cuts) m)
-IsAnswer x roots m cuts (BadCut place) = IsFirstBad x.table.nodes roots cuts place
+IsAnswer x roots m cuts (BadCut place) = IsFirstBadCut x.table.nodes roots cuts place

@@ -7,6 +7,6 @@ use Rattle.live_rows.specs.declared.mark.Mark.{Mark}
 use Rattle.live_rows.specs.Shown.{Shows}
 
 -- each cut was allowed when it was made, and the marks are right
-pub record AreMade (nodes : List Node) (roots : List ℕ) (cuts : List Row) (marks : List Mark) : Type 0 where
+pub record CutsAreMade (nodes : List Node) (roots : List ℕ) (cuts : List Row) (marks : List Mark) : Type 0 where
   pub chain : IsChain nodes roots (cuts_of cuts)
   pub shows : Shows nodes roots (cuts_of cuts) marks

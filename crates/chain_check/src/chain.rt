@@ -6,11 +6,8 @@ ghost use Rattle.bit_rows.specs.Sets.{members};
 ghost use Rattle.once_random.specs.Cuts.{AreWithin};
 ghost use Rattle.once_random.specs.Tuples.{roots_of};
 ghost use Rattle.live_rows.specs.State.{IsClear};
-ghost use Rattle.chain_check.specs.Answer.{IsAnswer, IsFirstBad};
-ghost use Rattle.chain_check.specs.Made.{AreMade};
-
-#[cfg(test)]
-mod tests;
+ghost use Rattle.chain_check.specs.Answer.{IsAnswer, IsFirstBadCut};
+ghost use Rattle.chain_check.specs.Made.{CutsAreMade};
 
 use crate::allowed::cut_allowed;
 use crate::answer::ChainAnswer;
@@ -37,8 +34,8 @@ fn make_cuts<L: Ledger>(
     requires cut_rows { AreWithin instance.now.table cuts.now }
     ensures rows { length live.new.marks ≡ length live.old.marks }
     ensures made { MatchOption result
-        (AreMade instance.now.table.nodes (roots_of instance.now (members probes.now)) cuts.now live.new.marks)
-        (IsFirstBad instance.now.table.nodes (roots_of instance.now (members probes.now)) cuts.now) }
+        (CutsAreMade instance.now.table.nodes (roots_of instance.now (members probes.now)) cuts.now live.new.marks)
+        (IsFirstBadCut instance.now.table.nodes (roots_of instance.now (members probes.now)) cuts.now) }
 {
     live.begin(&instance.table, instance.probes.as_slice(), probes, steps);
     for (place, row) in cuts.iter().enumerate() {

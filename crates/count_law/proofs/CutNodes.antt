@@ -11,9 +11,10 @@ use Rattle.expr_table.specs.Term.{Term}
 use Rattle.expr_table.specs.Values.{bit, eval, xor}
 use Rattle.expr_table.proofs.Facts.{Xor-sides_differ, xor-turned}
 use Rattle.expr_table.proofs.Rows.{SidesBelow-from_sides, term_at-node}
+use Rattle.once_random.specs.Live.{AreLower}
 use Rattle.once_random.specs.Numbers.{least_below}
 use Rattle.once_random.specs.Cuts.{IsChain, is_allowed, is_fresh, is_masked, is_random, masks, has_no_parent_but}
-use Rattle.once_random.proofs.Facts.{IsEarlier, has_first, has_later}
+use Rattle.once_random.proofs.Facts.{has_first, has_later}
 use Rattle.once_random.proofs.LeastChain.{passes_at, fails_below}
 use Rattle.count_law.specs.RowCounts.{row_value}
 use Rattle.count_law.specs.CutRows.{masking_side, cut_nodes}
@@ -35,7 +36,7 @@ node_value-term inputs w ts (node.Random i) = refl
 node_value-term inputs w ts (node.And a b) = refl
 node_value-term inputs w ts (node.Xor a b) = refl
 
-pub row-value : (nodes : List Node) → IsEarlier nodes → (inputs w : List Bool) (row : ℕ) → row < length nodes
+pub row-value : (nodes : List Node) → AreLower nodes → (inputs w : List Bool) (row : ℕ) → row < length nodes
     → row_value nodes inputs w row ≡ node_value inputs w (row_value nodes inputs w) (node_at nodes row)
 row-value nodes earlier inputs w row lt =
     ap (eval inputs w) (term_at-node nodes (λ r. SidesBelow-from_sides r (node_at nodes r) (earlier r)) row lt)
@@ -223,7 +224,7 @@ module _ (t : Table) (table : IsTable t) (roots : List ℕ) where
       (λ c. (c, subst (λ n. has (sides n) s ≡ true) (after-uncut cuts r c) h))
       (cases_Bool (has cuts r))
 
-  pub after-earlier : (cuts : List ℕ) → IsChain t.nodes roots cuts → IsEarlier (after cuts)
+  pub after-earlier : (cuts : List ℕ) → IsChain t.nodes roots cuts → AreLower (after cuts)
   after-earlier cuts chain row s h = table.earlier row s (after-side cuts chain row s h).1
 
   pub after-input : (cuts : List ℕ) → IsChain t.nodes roots cuts → (r i : ℕ) → node_at (after cuts) r ≡ node.Input i → (i < t.inputs) × (r ≡ 2 + i)

@@ -6,9 +6,9 @@ use Rattle.std.proofs.lemmas.Bool.{cases_lt, cond-true, and_from, or_cases, or_l
 use Rattle.std.proofs.lemmas.List.{get_or_past}
 use Rattle.std.proofs.lemmas.List.FromFn.{get_or-map-range_with_len}
 use Rattle.expr_table.specs.Values.{bit}
-use Rattle.once_random.specs.Groups.{is_group, is_in_group}
+use Rattle.once_random.specs.Groups.{is_group, is_in_group, group_at}
 use Rattle.once_random.proofs.Facts.{count_some}
-use Rattle.count_law.specs.Simulation.{group_at, members_in, SamePublics, SameOn, DependsOn, IsSimulatable, IsIndependent, known_inputs}
+use Rattle.count_law.specs.Simulation.{members_in, SamePublics, SameOn, DependsOn, IsSimulatable, IsIndependent, known_inputs}
 
 -- a leaf with a group is one of those that have an entry
 pub grouped-below : (groups : List (Option ℕ)) (i : ℕ) → is_some (group_at groups i) ≡ true → i < length groups

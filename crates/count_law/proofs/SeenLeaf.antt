@@ -11,7 +11,7 @@ use Rattle.expr_table.proofs.Facts.{node_at-slice_get}
 use Rattle.count_law.specs.Counts.{are_same_bits}
 use Rattle.count_law.specs.Instances.{AreSimulatableRows}
 use Rattle.count_law.specs.RowCounts.{row_value, row_values, count_of_rows}
-use Rattle.count_law.specs.Simulation.{group_at}
+use Rattle.once_random.specs.Groups.{group_at}
 use Rattle.count_law.proofs.Counting.{total, total-same, total-none, one_at, count-total}
 use Rattle.count_law.proofs.CutNodes.{node_value, row-value}
 use Rattle.count_law.proofs.Dependence.{grouped-below}

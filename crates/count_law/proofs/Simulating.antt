@@ -7,15 +7,15 @@ use Rattle.expr_table.specs.Instance.{IsFitting}
 use Rattle.expr_table.specs.Table.{IsTable}
 use Rattle.expr_table.specs.Values.{bit}
 use Rattle.once_random.specs.Cuts.{least_chain}
-use Rattle.once_random.specs.Groups.{is_in_group, is_within, live_leaves}
+use Rattle.once_random.specs.Groups.{is_in_group, is_within, live_leaves, group_at}
 use Rattle.once_random.specs.Live.{AreRows, is_live}
 use Rattle.once_random.specs.Numbers.{count_below}
-use Rattle.once_random.specs.Provable.{IsProvable, is_provable}
-use Rattle.once_random.proofs.Facts.{count_mono, least_chain_decides, within_is_each_group}
-use Rattle.count_law.specs.Instances.{leaves_left, AreSimulatableRows}
+use Rattle.once_random.specs.Provable.{IsProvable, is_provable, leaves_left}
+use Rattle.once_random.proofs.Facts.{count_mono, leaves_by_number, least_chain_decides, within_is_each_group}
+use Rattle.count_law.specs.Instances.{AreSimulatableRows}
 use Rattle.count_law.specs.RowCounts.{count_of_rows}
 use Rattle.count_law.specs.CutRows.{cut_table}
-use Rattle.count_law.specs.Simulation.{group_at, members_in}
+use Rattle.count_law.specs.Simulation.{members_in}
 
 module _ (x : Instance) (table : IsTable x.table) (fitting : IsFitting x) where
   module _ (roots : List ℕ) (within : AreRows x.table.nodes roots) where
@@ -43,7 +43,7 @@ module _ (x : Instance) (table : IsTable x.table) (fitting : IsFitting x) where
         let of_live : ℕ → Bool = λ i. is_in_group x.groups group i && is_live x.table.nodes roots least (2 + i) in
         let of_set : ℕ → Bool = λ i. is_in_group x.groups group i && leaves_left x roots i in
         let bound : live_leaves x roots least group ≤ m = (within_is_each_group x roots least m fitting).0 (least_within m provable) group in
-        let same : count_below (length x.groups) of_live ≡ live_leaves x roots least group = ap (λ n. count_below n of_live) fitting.one_group_each in
+        let same : count_below (length x.groups) of_live ≡ live_leaves x roots least group = ap (λ n. count_below n of_live) fitting.one_group_each ∙ sym (leaves_by_number x table fitting roots least group) in
         let less : count_below (length x.groups) of_set ≤ count_below (length x.groups) of_live =
         count_mono (length x.groups) of_live of_set (λ i t.
         let parts = and_parts (is_in_group x.groups group i) (leaves_left x roots i) t in

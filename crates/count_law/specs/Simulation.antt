@@ -6,15 +6,11 @@
 -- is public. `count inputs o` is how many assignments of the random leaves give the observation o, where the input leaves
 -- have the bits `inputs`. A set of leaves is a test of their numbers.
 use Rattle.std.specs.Prelude.{ℕ, ◌<◌, ◌≤◌, ◌≡◌, ◌&&◌, ◌||◌, not, Bool, false, if◌then◌else◌, IsTrue}
-use Rattle.std.specs.Prelude.{List, length, map, slice_index_or, Option, None, is_some, IsNone, IsSome}
+use Rattle.std.specs.Prelude.{List, length, map, Option, is_some, IsNone, IsSome}
 use Rattle.std.specs.List.{range_with_len}
 use Rattle.expr_table.specs.Values.{bit}
-use Rattle.once_random.specs.Groups.{is_in_group}
+use Rattle.once_random.specs.Groups.{group_at, is_in_group}
 use Rattle.once_random.specs.Numbers.{count_below}
-
--- the group of a leaf
-abbrev pub group_at : List (Option ℕ) → ℕ → Option ℕ
-group_at groups i = slice_index_or groups i None
 
 -- the inputs have the same public bits
 abbrev pub SamePublics : List (Option ℕ) → List Bool → List Bool → Type 0

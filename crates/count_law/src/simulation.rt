@@ -4,9 +4,10 @@ ghost use Rattle.expr_table.specs.declared.instance.Instance.{Instance};
 ghost use Rattle.expr_table.specs.Instance.{IsFitting};
 ghost use Rattle.expr_table.specs.Table.{IsTable};
 ghost use Rattle.once_random.specs.Live.{AreAmong, AreRows};
-ghost use Rattle.once_random.specs.Provable.{IsProvable};
-ghost use Rattle.count_law.specs.Instances.{AreIndependentRows, AreSimulatableRows, leaves_left};
-ghost use Rattle.count_law.specs.Simulation.{DependsOn, group_at, known_inputs};
+ghost use Rattle.once_random.specs.Provable.{IsProvable, leaves_left};
+ghost use Rattle.count_law.specs.Instances.{AreIndependentRows, AreSimulatableRows};
+ghost use Rattle.count_law.specs.Simulation.{DependsOn, known_inputs};
+ghost use Rattle.once_random.specs.Groups.{group_at};
 
 use crate::cuts::chain_keeps_counts;
 

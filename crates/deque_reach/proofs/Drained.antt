@@ -16,7 +16,8 @@ use Rattle.deque_reach.specs.declared.pass_view.PassView.{PassView}
 use Rattle.deque_reach.specs.declared.lane.Lane.{Lane}
 use Rattle.deque_reach.specs.declared.reach.Reach.{Reach}
 use Rattle.deque_reach.specs.declared.deques.Deques.{Deques}
-use Rattle.deque_reach.specs.Fits.{Fits, AsOften}
+use Rattle.probe_family.specs.Often.{AsOften}
+use Rattle.deque_reach.specs.Fits.{Fits}
 use Rattle.deque_reach.specs.Rule.{all_parts}
 use Rattle.deque_reach.specs.Steps.{Balances}
 use Rattle.deque_reach.specs.Lanes.{taken_by, IsLaneTo}

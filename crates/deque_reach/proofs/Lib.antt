@@ -4,3 +4,4 @@ pub mod Reached
 pub mod Rowed
 pub mod Made
 pub mod Drained
+pub mod Each

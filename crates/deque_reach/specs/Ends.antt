@@ -7,7 +7,8 @@ use Rattle.crossbeam_deque.specs.Handles.{worker_deque, worker_flavor, worker_vi
 use Rattle.probe_family.specs.declared.family.Family.{Family}
 use Rattle.deque_reach.specs.declared.pass_view.PassView.{PassView}
 use Rattle.deque_reach.specs.declared.lane.Lane.{Lane}
-use Rattle.deque_reach.specs.Fits.{Fits, AsOften}
+use Rattle.probe_family.specs.Often.{AsOften}
+use Rattle.deque_reach.specs.Fits.{Fits}
 use Rattle.deque_reach.specs.Lanes.{taken_by, IsLaneTo}
 use Rattle.deque_reach.specs.Rows.{Owner}
 

@@ -1,5 +1,5 @@
 -- What clauses say of the deques and of a reach.
-use Rattle.std.specs.Prelude.{◌≡◌, ℕ, ◌+◌, ◌++◌, List, map, length, slice_get, Some, All}
+use Rattle.std.specs.Prelude.{◌≡◌, ℕ, suc, ◌+◌, ◌++◌, List, [], ◌∷◌, map, length, slice_get, slice_index_or, Some, All}
 use Rattle.std.specs.List.{AllZip, flat_map, range_with_len}
 use Rattle.std.specs.Global.{Global}
 use Rattle.atomic_blocks.specs.Lent.{RowsId}
@@ -10,7 +10,7 @@ use Rattle.deque_reach.specs.declared.reach.Reach.{Reach}
 use Rattle.deque_reach.specs.declared.deques.Deques.{Deques}
 use Rattle.deque_reach.specs.Rule.{all_parts}
 use Rattle.deque_reach.specs.Views.{ReachView}
-use Rattle.deque_reach.specs.Fits.{AsOften}
+use Rattle.probe_family.specs.Often.{AsOften}
 use Rattle.deque_reach.specs.Lanes.{taken_by, IsLaneTo}
 use Rattle.deque_reach.specs.Rows.{Owner, IsNewOwner, IsNewRow}
 
@@ -31,10 +31,11 @@ view_of r = record {
 abbrev pub deques_of : Deques → List (RowsId × Global)
 deques_of d = map stealer_deque d.thieves.items
 
--- what the families of the deques fit
+-- over how many probes the families of the deques are
 abbrev pub probes_of : Deques → ℕ
 probes_of d = d.probes
 
+-- how many of them their tuples have at most
 abbrev pub order_of : Deques → ℕ
 order_of d = d.order
 
@@ -72,9 +73,29 @@ all_taken_by reaches = flat_map (λ r. (view_of r).popped ++ flat_map (λ fs. fs
 abbrev pub IsLeft : List Reach → List Family → Type 0
 IsLeft reaches left = AsOften (all_pushed_by reaches) (all_taken_by reaches ++ left)
 
--- a new deque and a new row of lanes of these deques, with so many workers
+-- the families that these reaches stole from the deque of this number
+abbrev pub stolen_from : ℕ → List Reach → List Family
+stolen_from number reaches = flat_map (λ r. slice_index_or (view_of r).stolen number []) reaches
+
+-- What is left in each deque, where these reaches own the deques from this number on: with what its owner popped and all reaches
+-- stole there it is what its owner pushed, as often.
+abbrev pub AreLeftFrom : List Reach → ℕ → List Reach → List (List Family) → Type 0
+AreLeftFrom reaches number [] [] = Unit {0}
+AreLeftFrom reaches number (r ∷ rs) (left ∷ lefts) =
+    AsOften (view_of r).pushed ((view_of r).popped ++ (stolen_from number reaches ++ left)) × AreLeftFrom reaches (suc number) rs lefts
+AreLeftFrom reaches number [] (left ∷ lefts) = ⊥
+AreLeftFrom reaches number (r ∷ rs) [] = ⊥
+
+-- what is left is what is left in each deque, in the order of their numbers
+pub record IsLeftInEach (reaches : List Reach) (left : List Family) : Type 0 where
+  pub lefts : List (List Family)
+  pub all : left ≡ flat_map (λ families. families) lefts
+  pub each : AreLeftFrom reaches 0 reaches lefts
+
+-- a new deque of these, with so many workers
 abbrev pub IsNewOwnerOf : ℕ → Deques → Owner → Type 0
 IsNewOwnerOf workers d owner = IsNewOwner workers (probes_of d) (order_of d) owner
 
+-- a new row of lanes of these deques
 abbrev pub IsNewRowOf : Deques → List Lane → Type 0
 IsNewRowOf d row = IsNewRow (deques_of d) (probes_of d) (order_of d) row

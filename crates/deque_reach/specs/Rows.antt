@@ -14,9 +14,11 @@ use Rattle.deque_reach.specs.Rule.{all_parts}
 use Rattle.deque_reach.specs.Steps.{fresh}
 use Rattle.deque_reach.specs.Lanes.{IsLaneTo}
 
+-- the owner's side of a deque
 abbrev pub Owner : Type 0
 Owner = Worker Family Global PassView Balanced
 
+-- the other workers' side of a deque
 abbrev pub Thief : Type 0
 Thief = Stealer Family Global PassView Balanced
 

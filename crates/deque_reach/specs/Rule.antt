@@ -3,7 +3,8 @@ use Rattle.std.specs.Prelude.{◌≡◌, ℕ, ◌<◌, ◌⊎◌, List, [], ◌�
 use Rattle.std.specs.List.{flat_map}
 use Rattle.probe_family.specs.declared.family.Family.{Family}
 use Rattle.deque_reach.specs.declared.pass_view.PassView.{PassView}
-use Rattle.deque_reach.specs.Fits.{Fits, AsOften}
+use Rattle.probe_family.specs.Often.{AsOften}
+use Rattle.deque_reach.specs.Fits.{Fits}
 
 -- the right to know a whole deque has so many parts
 abbrev pub all_parts : ℕ
@@ -43,5 +44,6 @@ pub record IsBeginning (items : List Family) (views : List PassView) : Type 0 wh
   pub pushed : items ≡ owner.pushed
   pub taken : owner.taken ≡ []
 
+-- a deque is at its beginning, or it obeys the rule
 abbrev pub Keeps : List Family → List PassView → Type 0
 Keeps items views = IsBeginning items views ⊎ ((probes order : ℕ) × ObeysRule probes order items views)

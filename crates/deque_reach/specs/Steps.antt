@@ -3,7 +3,8 @@ use Rattle.std.specs.Prelude.{◌≡◌, ℕ, ◌+◌, ◌-◌, List, [], ◌∷
 use Rattle.probe_family.specs.declared.family.Family.{Family}
 use Rattle.probe_family.specs.declared.part.Part.{Part}
 use Rattle.deque_reach.specs.declared.pass_view.PassView.{PassView}
-use Rattle.deque_reach.specs.Fits.{Fits, AsOften}
+use Rattle.probe_family.specs.Often.{AsOften}
+use Rattle.deque_reach.specs.Fits.{Fits}
 use Rattle.deque_reach.specs.Rule.{all_parts}
 
 -- the first family of a deque is pushed

@@ -6,7 +6,7 @@ ghost use Rattle.crossbeam_deque.specs.Handles.{worker_deque, worker_flavor, wor
 ghost use Rattle.deque_reach.specs.Fits.{Fits};
 ghost use Rattle.deque_reach.specs.Rule.{all_parts};
 ghost use Rattle.deque_reach.specs.Ends.{StartsTo, others, JoinsFirsts, Drains};
-ghost use Rattle.deque_reach.specs.Reaches.{probes_of, order_of, AreReachesOf, IsLeft};
+ghost use Rattle.deque_reach.specs.Reaches.{probes_of, order_of, AreReachesOf, IsLeft, IsLeftInEach};
 
 use crate::NoMemory;
 use crate::deques::Deques;
@@ -25,6 +25,7 @@ pub fn drain_deques(
 ) -> Result<Vec<Family>, NoMemory>
     requires { AreReachesOf deques reaches.items }
     ensures left { IfOk result (λ left. IsLeft reaches.items left.items) }
+    ensures each { IfOk result (λ left. IsLeftInEach reaches.items left.items) }
     ensures fits { IfOk result (λ left. All (Fits (probes_of deques) (order_of deques)) left.items) }
 {
     let (owners, mut rows) = take_apart(alloc, reaches)?;

@@ -19,8 +19,6 @@ mod make;
 mod pass_view;
 mod reach;
 mod rule;
-#[cfg(test)]
-mod tests;
 
 pub use deques::Deques;
 pub use drain::drain_deques;

@@ -4,7 +4,7 @@ use Rattle.std.proofs.lemmas.Bool.{cond-true, cond-false}
 use Rattle.expr_table.specs.declared.node.Node.{Node}
 use Rattle.expr_table.specs.declared.node.Node.TheVariants as node
 use Rattle.expr_table.specs.Term.{Term, is_same}
-use Rattle.expr_table.specs.Table.{Table, IsTable, node_at, terms, term_at, term_of, place_of, node_of, nodes_of}
+use Rattle.expr_table.specs.Table.{Table, IsTable, node_at, terms, term_at, term_of, row_with, node_of, nodes_of}
 use Rattle.expr_table.proofs.Order.{is_same-equal, is_same-other}
 use Rattle.expr_table.proofs.Rows.{SidesBelow, SidesBelow-weaker, AreDistinct, length-terms, row-below, row-term, row-distinct}
 
@@ -12,12 +12,12 @@ AreDistinct-tail : (s : Term) (ss : List Term) → AreDistinct (s ∷ ss) → Ar
 AreDistinct-tail s ss apart i j il jl e = let same = apart (suc i) (suc j) (omega arith) (omega arith) e in omega arith
 
 -- a term of a list of distinct ones stands first where it stands
-pub place_of-at : (ts : List Term) → AreDistinct ts → (i : ℕ) → i < length ts → place_of ts (term_at ts i) ≡ i
-place_of-at [] apart i lt = absurd (omega arith)
-place_of-at (s ∷ ss) apart zero lt = cond-true (is_same s s) 0 _ (is_same-equal s s refl)
-place_of-at (s ∷ ss) apart (suc i) lt =
+pub row_with-at : (ts : List Term) → AreDistinct ts → (i : ℕ) → i < length ts → row_with ts (term_at ts i) ≡ i
+row_with-at [] apart i lt = absurd (omega arith)
+row_with-at (s ∷ ss) apart zero lt = cond-true (is_same s s) 0 _ (is_same-equal s s refl)
+row_with-at (s ∷ ss) apart (suc i) lt =
     cond-false (is_same s (term_at ss i)) 0 _ (is_same-other s (term_at ss i) (λ e. let same = apart 0 (suc i) (omega arith) lt e in omega arith))
-    ∙ omega (arith, place_of-at ss (AreDistinct-tail s ss apart) i (omega arith))
+    ∙ omega (arith, row_with-at ss (AreDistinct-tail s ss apart) i (omega arith))
 
 -- a node is that of its term
 node_of-term : (ts : List Term) → AreDistinct ts → (n : Node) → SidesBelow (length ts) n → node_of ts (term_of ts n) ≡ n
@@ -26,9 +26,9 @@ node_of-term ts apart node.One below = refl
 node_of-term ts apart (node.Input i) below = refl
 node_of-term ts apart (node.Random i) below = refl
 node_of-term ts apart (node.And a b) below =
-    λ i. node.And (record { 0 = place_of-at ts apart a.0 below.0 i }) (record { 0 = place_of-at ts apart b.0 below.1 i })
+    λ i. node.And (record { 0 = row_with-at ts apart a.0 below.0 i }) (record { 0 = row_with-at ts apart b.0 below.1 i })
 node_of-term ts apart (node.Xor a b) below =
-    λ i. node.Xor (record { 0 = place_of-at ts apart a.0 below.0 i }) (record { 0 = place_of-at ts apart b.0 below.1 i })
+    λ i. node.Xor (record { 0 = row_with-at ts apart a.0 below.0 i }) (record { 0 = row_with-at ts apart b.0 below.1 i })
 
 each_of : (f : Term → Node) (ns : List Node) (ts : List Term) → length ns ≡ length ts → ((i : ℕ) → i < length ns → node_at ns i ≡ f (term_at ts i)) → ns ≡ map f ts
 each_of f [] [] len h = refl

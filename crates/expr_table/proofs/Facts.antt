@@ -6,11 +6,11 @@ use Rattle.expr_table.specs.declared.node.Node.{Node}
 use Rattle.expr_table.specs.declared.node.Row.{Row}
 use Rattle.expr_table.specs.declared.node.Node.TheVariants as node
 use Rattle.expr_table.specs.Term.{Term, term_cmp}
-use Rattle.expr_table.specs.Table.{Table, IsTable, IsRowOf, Extends, node_at, terms, term_at, term_of, place_of}
+use Rattle.expr_table.specs.Table.{Table, IsTable, IsRowOf, Extends, node_at, terms, term_at, term_of, row_with}
 use Rattle.expr_table.proofs.Order.{cmp_self}
 use Rattle.expr_table.proofs.Rows as rows
 use Rattle.expr_table.proofs.Added.{slice_get-left}
-use Rattle.expr_table.proofs.Determined.{place_of-at}
+use Rattle.expr_table.proofs.Determined.{row_with-at}
 -- the terms of a list and where they stand, the rows of a new table, the values of the gates
 pub use Rattle.expr_table.proofs.Order.{is_same-exact, is_same-equal}
 pub use Rattle.expr_table.proofs.Rows.{length-terms, term_at-append, has_term-row, with_term-there, with_term-absent, Extends-self}
@@ -48,9 +48,9 @@ module _ (t : Table) (table : IsTable t) where
   same_row row other s first second = table.distinct row other first.within second.within (first.term ∙ sym second.term)
 
   -- and it is where the term stands among the terms
-  pub place_of-row : (row : ℕ) (s : Term) → IsRowOf t.nodes row s → place_of (terms t.nodes) s ≡ row
-  place_of-row row s is =
-      ap (place_of (terms t.nodes)) (sym is.term) ∙ place_of-at (terms t.nodes) (rows.row-distinct t table) row (omega (arith, is.within, length-terms t.nodes))
+  pub row_with-row : (row : ℕ) (s : Term) → IsRowOf t.nodes row s → row_with (terms t.nodes) s ≡ row
+  row_with-row row s is =
+      ap (row_with (terms t.nodes)) (sym is.term) ∙ row_with-at (terms t.nodes) (rows.row-distinct t table) row (omega (arith, is.within, length-terms t.nodes))
 
 -- a row's node, by both words for it
 pub node_at-slice_get : (ns : List Node) (row : ℕ) (n : Node) → slice_get ns row ≡ Some n → (row < length ns) × (node_at ns row ≡ n)

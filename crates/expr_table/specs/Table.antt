@@ -101,6 +101,7 @@ abbrev pub leaves : ℕ → ℕ → List Node
 leaves inputs randoms =
     node.Zero ∷ node.One ∷ numbered_leaves node.Input 0 inputs ++ numbered_leaves node.Random 0 randoms
 
+-- a table of the leaves alone
 abbrev pub new_table : ℕ → ℕ → Table
 new_table inputs randoms = record { inputs = inputs; randoms = randoms; nodes = leaves inputs randoms }
 
@@ -129,10 +130,10 @@ pub record IsTable (t : Table) : Type 0 where
       → term_at (terms t.nodes) row ≡ term_at (terms t.nodes) other → row ≡ other
   pub few : length t.nodes ≤ most_rows
 
--- where a term first stands in a list
-abbrev pub place_of : List Term → Term → ℕ
-place_of [] t = 0
-place_of (s ∷ ss) t = if is_same s t then 0 else place_of ss t + 1
+-- the row of a term in a list of terms: where it first stands
+abbrev pub row_with : List Term → Term → ℕ
+row_with [] t = 0
+row_with (s ∷ ss) t = if is_same s t then 0 else row_with ss t + 1
 
 -- the node that has a term, with its sides where they stand in the list
 abbrev pub node_of : List Term → Term → Node
@@ -140,8 +141,8 @@ node_of ts Zero = node.Zero
 node_of ts One = node.One
 node_of ts (Input i) = node.Input i
 node_of ts (Random i) = node.Random i
-node_of ts (And a b) = node.And (record { 0 = place_of ts a }) (record { 0 = place_of ts b })
-node_of ts (Xor a b) = node.Xor (record { 0 = place_of ts a }) (record { 0 = place_of ts b })
+node_of ts (And a b) = node.And (record { 0 = row_with ts a }) (record { 0 = row_with ts b })
+node_of ts (Xor a b) = node.Xor (record { 0 = row_with ts a }) (record { 0 = row_with ts b })
 
 -- the nodes of a list of terms, each once
 abbrev pub nodes_of : List Term → List Node

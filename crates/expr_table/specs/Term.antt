@@ -29,6 +29,7 @@ term_cmp (And a b) (And c d) = ordering_then (term_cmp a c) (term_cmp b d)
 term_cmp (Xor a b) (Xor c d) = ordering_then (term_cmp a c) (term_cmp b d)
 term_cmp s t = nat_cmp (kind s) (kind t)
 
+-- the terms are equal in the structural order
 abbrev pub is_same : Term → Term → Bool
 is_same s t = is_eq (term_cmp s t)
 
@@ -64,8 +65,10 @@ and_of a b =
     else (if is_same b One then a
     else (if is_same a b then a else ordered_and a b))))
 
+-- the simplified negation: the exclusive or with One
 abbrev pub not_of : Term → Term
 not_of a = xor_of One a
 
+-- the simplified disjunction: what is not in neither
 abbrev pub or_of : Term → Term → Term
 or_of a b = not_of (and_of (not_of a) (not_of b))

@@ -29,3 +29,13 @@ pub struct Instance {
     pub probes: Sequence<ProbeRoots>,
     pub groups: Sequence<Option<u32>>,
 }
+
+/// What threads may share, and hand to each other.
+fn is_shared<T: Send + Sync>(_: &T) {}
+
+impl Instance {
+    /// Threads may share an instance, and hand it to each other. This call does nothing; that it is there shows it.
+    pub fn is_for_threads(&self) {
+        is_shared(self)
+    }
+}

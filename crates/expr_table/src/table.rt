@@ -8,26 +8,21 @@ mod gate;
 mod intern;
 mod make;
 mod simplify;
-#[cfg(test)]
-mod tests;
 
 use crate::NoMemory;
 use crate::node::{Node, Row};
 use indexmap::IndexMap;
 use std::marker::Model;
-use thiserror::Error;
 
 /// The most rows that a table has.
 pub const MOST_ROWS: usize = 524_288;
 
 /// Why a row was not made.
-#[derive(Debug, Drop, Error)]
+#[derive(Debug, Drop)]
 pub enum TermStop {
     /// The table has [`MOST_ROWS`] rows, and one more is needed.
-    #[error("too many terms")]
     TooManyTerms,
     /// Memory was refused.
-    #[error("memory was refused")]
     NoMemory,
 }
 

@@ -1,6 +1,7 @@
 -- Hulls, and when sets of probes are provable.
-use Rattle.std.proofs.Common.{◌≡◌, ◌⊎◌, ℕ, zero, suc, ◌+◌, ◌<◌, ◌≤◌, Bool, true, false, cond, ◌&&◌, ◌==◌, List, [], ◌∷◌, length, slice_set, All, count_by, refl, sym, ap, ◌∙◌, arith, Some, None, ⊎_elim, true≢false}
-use Rattle.std.proofs.lemmas.Bool.{cases_Bool, cases_lt, cond-true, cond-false, and_parts, and_from, or_cases, or_left, or_right, eq-eqb, eqb-true}
+use Rattle.std.proofs.Common.{◌≡◌, ◌↔◌, ℕ, zero, suc, ◌+◌, ◌<◌, ◌≤◌, Bool, true, false, cond, ◌&&◌, ◌==◌, List, [], ◌∷◌, length, slice_set, All, count_by, refl, sym, ap, ◌∙◌, arith, Some, None, ⊎_elim, true≢false}
+use Rattle.std.proofs.lemmas.Bool.{cases_Bool, cases_lt, false_from_ne_true, cond-true, cond-false, and_parts, and_from, or_cases, or_left, or_right, eq-eqb, eqb-true}
+use Rattle.std.proofs.lemmas.Option.{same_Some}
 use Rattle.std.specs.List.{list_all, range_with_len, AllByRecursion}
 use Rattle.std.proofs.lemmas.List.Elements.{All-from_recursion}
 use Rattle.bit_rows.specs.Sets.{is_in, members, members_below, meet}
@@ -23,7 +24,7 @@ use Rattle.probe_family.proofs.Takes.{AreBelow}
 use Rattle.probe_family.proofs.Bits.{one_if, count_cons}
 use Rattle.probe_family.proofs.Members.{length-members}
 use Rattle.probe_family.proofs.Ranges.{count_in_fits}
-use Rattle.extend_set.specs.Hull.{is_provable_within, is_provable_set, set_with, numbers_of, grown, hull_of}
+use Rattle.extend_set.specs.Hull.{IsMonotone, is_met_by, is_provable_within, is_provable_set, set_with, numbers_of, grown, hull_by, hull_of}
 use Rattle.extend_set.specs.Growth.{IsGrownTo, IsKeptBySubsets, with_numbers, without_run}
 use Rattle.extend_set.proofs.RunSets.{all_has, of-from, of-parts, numbers_alone}
 use Rattle.extend_set.proofs.Greedy.{range-has, filter-has, filter-parts, length-grown, grown-keeps, grown-parts, grown-fits, grown-maximal}
@@ -57,6 +58,10 @@ all_among xs (n ∷ ns) all q h =
     (λ later. all_among xs ns parts.1 q later)
     (or_cases (n == q) (has ns q) h)
 
+-- what some numbers meet together fewer meet, and so do sets
+pub kept_by : (meets : List ℕ → Bool) → IsMonotone meets → IsKeptBySubsets (is_met_by meets)
+kept_by meets monotone some all sub h = monotone (members some) (members all) (λ q is. members-has all q (is_subset-each some all sub q (members-in some q is))) h
+
 -- ---- provable sets
 
 module _ (x : Instance) (m : ℕ) where
@@ -80,7 +85,7 @@ module _ (x : Instance) (m : ℕ) where
         (provable-among x (roots_of x some) (roots_of x all) m (roots_among x all some among) (provable_is all h))
 
     pub provable_kept : IsKeptBySubsets (is_provable_set x m)
-    provable_kept some all sub h = provable_fewer (members some) (members all) (λ q is. members-has all q (is_subset-each some all sub q (members-in some q is))) h
+    provable_kept = kept_by (is_provable_within x m) provable_fewer
 
 -- ---- the least tuple
 
@@ -146,92 +151,137 @@ module _ (n : ℕ) (family : Family) (is : IsFamily n family) where
           let split = and_parts (is_taken_from part (least_of family)) (list_all (λ part. is_taken_from part (least_of family)) parts) all in
           (one part split.0, each parts split.1)
 
--- ---- hulls
+-- ---- hulls by any criterion
 
 -- what a hull is
-pub record IsGreedy (x : Instance) (family : Family) (hull : List Bool) : Type 0 where
-  pub begins : is_provable_within x family.bound (least_of family) ≡ true
-  pub grows : hull ≡ grown (is_provable_set x family.bound) (set_with (length x.probes) (least_of family)) (numbers_of (length x.probes) family.parts)
+pub record IsGreedyBy (meets : List ℕ → Bool) (n : ℕ) (family : Family) (hull : List Bool) : Type 0 where
+  pub begins : meets (least_of family) ≡ true
+  pub grows : hull ≡ grown (is_met_by meets) (set_with n (least_of family)) (numbers_of n family.parts)
+
+module _ (meets : List ℕ → Bool) (n : ℕ) (family : Family) where
+  abbrev whole : List Bool
+  whole = grown (is_met_by meets) (set_with n (least_of family)) (numbers_of n family.parts)
+
+  pub by_some : (hull : List Bool) → IsGreedyBy meets n family hull → hull_by meets n family ≡ Some hull
+  by_some hull is = cond-true (meets (least_of family)) (Some whole) None is.begins ∙ ap Some (sym is.grows)
+
+  pub by_none : meets (least_of family) ≡ false → hull_by meets n family ≡ None
+  by_none misfit = cond-false (meets (least_of family)) (Some whole) None misfit
+
+  pub by_is : (hull : List Bool) → hull_by meets n family ≡ Some hull → IsGreedyBy meets n family hull
+  by_is hull is =
+      ⊎_elim
+      (λ begins. let same : Some hull ≡ Some whole = sym is ∙ cond-true (meets (least_of family)) (Some whole) None begins in record { begins = begins; grows = same_Some hull whole same })
+      (λ misfit. let none : Some hull ≡ None = sym is ∙ cond-false (meets (least_of family)) (Some whole) None misfit in absurd (cc none))
+      (cases_Bool (meets (least_of family)))
+
+  -- there is none exactly where the least tuple does not meet the criterion
+  pub by_there : (hull_by meets n family ≡ None) ↔ (meets (least_of family) ≡ false)
+  by_there = ((λ none. false_from_ne_true (meets (least_of family)) (λ begins. let e : None ≡ Some whole = sym none ∙ by_some whole (record { begins = begins; grows = refl }) in absurd (cc e))), by_none)
+
+  module _ (hull : List Bool) (greedy : IsGreedyBy meets n family hull) where
+    pub by_length : length hull ≡ n
+    by_length =
+        ap length greedy.grows
+        ∙ (length-grown (is_met_by meets) (set_with n (least_of family)) (numbers_of n family.parts) ∙ length-set_of n (has (least_of family)))
+
+    module _ (is : IsFamily n family) where
+      by_has : (q : ℕ) → has (least_of family) q ≡ true → is_in hull q ≡ true
+      by_has q h =
+          ap (λ ys. is_in ys q) greedy.grows
+          ∙ grown-keeps (is_met_by meets) (set_with n (least_of family)) (numbers_of n family.parts) q
+          (of-from n (has (least_of family)) q (all_has (λ p. p < n) (least_of family) (least_below n family is) q h) h)
+
+      -- the least tuple lies inside
+      pub by_least : list_all (is_in hull) (least_of family) ≡ true
+      by_least = each (least_of family) by_has
+        where
+          each : (ns : List ℕ) → ((q : ℕ) → has ns q ≡ true → is_in hull q ≡ true) → list_all (is_in hull) ns ≡ true
+          each [] all = refl
+          each (p ∷ ps) all =
+              and_from (is_in hull p) (list_all (is_in hull) ps) (all p (or_left (p == p) (has ps p) (eq-eqb p p refl)))
+              (each ps (λ q h. all q (or_right (p == q) (has ps q) h)))
+
+      -- and nothing from outside the parts
+      pub by_within : (q : ℕ) → is_in hull q ≡ true → is_in_part family.parts q ≡ true
+      by_within q h =
+          ⊎_elim
+          (λ first. least_in_part n family is q (of-parts n (has (least_of family)) q first))
+          (λ listed. (filter-parts (is_in_part family.parts) (range_with_len 0 n) q listed).1)
+          (grown-parts (is_met_by meets) (set_with n (least_of family)) (numbers_of n family.parts) q
+          (sym (ap (λ ys. is_in ys q) greedy.grows) ∙ h))
+
+      -- the whole of it meets the criterion, where the set of the least tuple does
+      pub by_whole : meets (members (set_with n (least_of family))) ≡ true → meets (members hull) ≡ true
+      by_whole begun =
+          ap (is_met_by meets) greedy.grows ∙ grown-fits (is_met_by meets) (set_with n (least_of family)) (numbers_of n family.parts) begun
+
+      module _ (monotone : IsMonotone meets) where
+        pub by_begun : meets (members (set_with n (least_of family))) ≡ true
+        by_begun = monotone (members (set_with n (least_of family))) (least_of family) (λ q h. of-parts n (has (least_of family)) q (members-in (set_with n (least_of family)) q h)) greedy.begins
+
+        -- so does what lies inside
+        pub by_inside : (tuple : List ℕ) → list_all (is_in hull) tuple ≡ true → meets tuple ≡ true
+        by_inside tuple inside = monotone tuple (members hull) (all_among hull tuple inside) (by_whole by_begun)
+
+        -- no other number of the parts can be added
+        pub by_maximal : (q : ℕ) → is_in_part family.parts q ≡ true → is_in hull q ≡ false → meets (members (slice_set hull q true)) ≡ false
+        by_maximal q listed out =
+            let below : q < n = part_below n family is q listed in
+            let from : 0 ≤ q = omega arith in
+            ap (λ ys. is_met_by meets (slice_set ys q true)) greedy.grows
+            ∙ grown-maximal (is_met_by meets) (kept_by meets monotone) (set_with n (least_of family)) (numbers_of n family.parts) q
+            (omega (arith, length-set_of n (has (least_of family))))
+            (filter-has (is_in_part family.parts) (range_with_len 0 n) q (range-has 0 n q from (omega arith)) listed)
+            (sym (ap (λ ys. is_in ys q) greedy.grows) ∙ out)
+
+-- ---- hulls by what is provable
+
+abbrev pub IsGreedy : Instance → Family → List Bool → Type 0
+IsGreedy x family hull = IsGreedyBy (is_provable_within x family.bound) (length x.probes) family hull
 
 module _ (x : Instance) (family : Family) where
   pub hull_some : (hull : List Bool) → IsGreedy x family hull → hull_of x family ≡ Some hull
   unfolding hull_of
-  hull_some hull is = cond-true (is_provable_within x family.bound (least_of family)) (Some _) None is.begins ∙ ap Some (sym is.grows)
+  hull_some hull is = by_some (is_provable_within x family.bound) (length x.probes) family hull is
 
   pub hull_none : is_provable_within x family.bound (least_of family) ≡ false → hull_of x family ≡ None
   unfolding hull_of
-  hull_none misfit = cond-false (is_provable_within x family.bound (least_of family)) (Some _) None misfit
+  hull_none misfit = by_none (is_provable_within x family.bound) (length x.probes) family misfit
 
   pub hull_is : (hull : List Bool) → hull_of x family ≡ Some hull → IsGreedy x family hull
   unfolding hull_of
-  hull_is hull is = by_case (cases_Bool (is_provable_within x family.bound (least_of family)))
-    where
-      by_case : ((is_provable_within x family.bound (least_of family) ≡ true) ⊎ (is_provable_within x family.bound (least_of family) ≡ false)) → IsGreedy x family hull
-      by_case =
-          ⊎_elim
-          (λ begins.
-          let same : Some hull ≡ Some (grown (is_provable_set x family.bound) (set_with (length x.probes) (least_of family)) (numbers_of (length x.probes) family.parts)) =
-          sym is ∙ cond-true (is_provable_within x family.bound (least_of family)) (Some _) None begins in
-          record { begins = begins; grows = cc })
-          (λ misfit.
-          let none : Some hull ≡ None = sym is ∙ cond-false (is_provable_within x family.bound (least_of family)) (Some _) None misfit in
-          cc)
+  hull_is hull is = by_is (is_provable_within x family.bound) (length x.probes) family hull is
 
 module _ (x : Instance) (family : Family) (hull : List Bool) (greedy : IsGreedy x family hull) where
   pub hull_length : length hull ≡ length x.probes
-  hull_length =
-      ap length greedy.grows
-      ∙ (length-grown (is_provable_set x family.bound) (set_with (length x.probes) (least_of family)) (numbers_of (length x.probes) family.parts)
-      ∙ length-set_of (length x.probes) (has (least_of family)))
+  hull_length = by_length (is_provable_within x family.bound) (length x.probes) family hull greedy
 
   module _ (is : IsFamily (length x.probes) family) where
-    hull_has : (q : ℕ) → has (least_of family) q ≡ true → is_in hull q ≡ true
-    hull_has q h =
-        ap (λ ys. is_in ys q) greedy.grows
-        ∙ grown-keeps (is_provable_set x family.bound) (set_with (length x.probes) (least_of family)) (numbers_of (length x.probes) family.parts) q
-        (of-from (length x.probes) (has (least_of family)) q (all_has (λ p. p < length x.probes) (least_of family) (least_below (length x.probes) family is) q h) h)
-
     -- the least tuple lies inside
     pub hull_least : list_all (is_in hull) (least_of family) ≡ true
-    hull_least = each (least_of family) hull_has
-      where
-        each : (ns : List ℕ) → ((q : ℕ) → has ns q ≡ true → is_in hull q ≡ true) → list_all (is_in hull) ns ≡ true
-        each [] all = refl
-        each (p ∷ ps) all =
-            and_from (is_in hull p) (list_all (is_in hull) ps) (all p (or_left (p == p) (has ps p) (eq-eqb p p refl)))
-            (each ps (λ q h. all q (or_right (p == q) (has ps q) h)))
+    hull_least = by_least (is_provable_within x family.bound) (length x.probes) family hull greedy is
 
     -- and nothing from outside the parts
     pub hull_within : (q : ℕ) → is_in hull q ≡ true → is_in_part family.parts q ≡ true
-    hull_within q h =
-        ⊎_elim
-        (λ first. least_in_part (length x.probes) family is q (of-parts (length x.probes) (has (least_of family)) q first))
-        (λ listed. (filter-parts (is_in_part family.parts) (range_with_len 0 (length x.probes)) q listed).1)
-        (grown-parts (is_provable_set x family.bound) (set_with (length x.probes) (least_of family)) (numbers_of (length x.probes) family.parts) q
-        (sym (ap (λ ys. is_in ys q) greedy.grows) ∙ h))
+    hull_within q h = by_within (is_provable_within x family.bound) (length x.probes) family hull greedy is q h
 
     -- the whole of it is provable
     pub hull_provable : is_provable_within x family.bound (members hull) ≡ true
     hull_provable =
-        ap (is_provable_set x family.bound) greedy.grows
-        ∙ grown-fits (is_provable_set x family.bound) (set_with (length x.probes) (least_of family)) (numbers_of (length x.probes) family.parts)
+        by_whole (is_provable_within x family.bound) (length x.probes) family hull greedy is
         (set_is_tuple x family.bound (length x.probes) (least_of family) (least_below (length x.probes) family is) ∙ greedy.begins)
 
     module _ (table : IsTable x.table) (fitting : IsFitting x) where
       -- so is what lies inside
       pub inside_provable : (tuple : List ℕ) → list_all (is_in hull) tuple ≡ true → is_provable_within x family.bound tuple ≡ true
-      inside_provable tuple inside = provable_fewer x family.bound table fitting tuple (members hull) (all_among hull tuple inside) hull_provable
+      inside_provable tuple inside =
+          by_inside (is_provable_within x family.bound) (length x.probes) family hull greedy is (provable_fewer x family.bound table fitting) tuple inside
 
       -- no other number of the parts can be added
       pub hull_maximal : (q : ℕ) → is_in_part family.parts q ≡ true → is_in hull q ≡ false → is_provable_set x family.bound (slice_set hull q true) ≡ false
       hull_maximal q listed out =
-          let below : q < length x.probes = part_below (length x.probes) family is q listed in
-          let from : 0 ≤ q = omega arith in
-          ap (λ ys. is_provable_set x family.bound (slice_set ys q true)) greedy.grows
-          ∙ grown-maximal (is_provable_set x family.bound) (provable_kept x family.bound table fitting) (set_with (length x.probes) (least_of family)) (numbers_of (length x.probes) family.parts) q
-          (omega (arith, length-set_of (length x.probes) (has (least_of family))))
-          (filter-has (is_in_part family.parts) (range_with_len 0 (length x.probes)) q (range-has 0 (length x.probes) q from (omega arith)) listed)
-          (sym (ap (λ ys. is_in ys q) greedy.grows) ∙ out)
+          by_maximal (is_provable_within x family.bound) (length x.probes) family hull greedy is (provable_fewer x family.bound table fitting) q listed out
 
 -- ---- the call
 

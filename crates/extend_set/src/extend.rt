@@ -75,6 +75,3 @@ pub fn hull(
     growth.grow(scratch, out);
     Some(())
 }
-
-#[cfg(test)]
-mod tests;

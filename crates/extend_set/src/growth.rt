@@ -102,6 +102,3 @@ impl<C: Criterion> Growth<'_, C> {
         }
     }
 }
-
-#[cfg(test)]
-mod tests;

@@ -14,7 +14,8 @@ ghost use Rattle.probe_family.specs.declared.family.Family.{Family};
 ghost use Rattle.probe_family.specs.Families.{IsFamily, is_in_part};
 ghost use Rattle.probe_family.specs.Least.{least_of};
 ghost use Rattle.family_split.specs.Children.{HasInside};
-ghost use Rattle.extend_set.specs.Hull.{hull_of, is_provable_set, is_provable_within};
+ghost use Rattle.extend_set.specs.Hull.{IsMonotone, LiesBetween, hull_by, hull_of, is_met_by};
+ghost use Rattle.extend_set.specs.Hull.{is_provable_set, is_provable_within};
 
 /// There is no hull exactly where the least tuple is not provable.
 pub fn hull_is_there()
@@ -66,4 +67,22 @@ pub fn hull_is_maximal()
         → IsTable x.table → IsFitting x → IsFamily (length x.probes) family → hull_of x family ≡ Some hull
         → IsTrue (is_in_part family.parts p) → IsFalse (is_in hull p)
         → IsFalse (is_provable_set x family.bound (slice_set hull p true)) }
+{}
+
+/// All this holds of the hulls by any criterion that is monotone; and the hull of a family of probes is the one by what is
+/// provable within the family's bound, which is monotone.
+pub fn hulls_by_any_criterion()
+    ensures monotone { (x : Instance) (m : ℕ) → IsTable x.table → IsFitting x → IsMonotone (is_provable_within x m) }
+    ensures instance { (x : Instance) (family : Family)
+        → hull_of x family ≡ hull_by (is_provable_within x family.bound) (length x.probes) family }
+    ensures there { (meets : List ℕ → Bool) (n : ℕ) (family : Family)
+        → (hull_by meets n family ≡ None) ↔ IsFalse (meets (least_of family)) }
+    ensures between { (meets : List ℕ → Bool) (n : ℕ) (family : Family) (hull : List Bool) → IsFamily n family
+        → hull_by meets n family ≡ Some hull → LiesBetween n family hull }
+    ensures inside { (meets : List ℕ → Bool) (n : ℕ) (family : Family) (hull : List Bool) (tuple : List ℕ)
+        → IsMonotone meets → IsFamily n family → hull_by meets n family ≡ Some hull
+        → IsTrue (list_all (is_in hull) tuple) → IsTrue (meets tuple) }
+    ensures maximal { (meets : List ℕ → Bool) (n : ℕ) (family : Family) (hull : List Bool) (p : ℕ)
+        → IsMonotone meets → IsFamily n family → hull_by meets n family ≡ Some hull
+        → IsTrue (is_in_part family.parts p) → IsFalse (is_in hull p) → IsFalse (is_met_by meets (slice_set hull p true)) }
 {}

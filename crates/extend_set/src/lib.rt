@@ -19,5 +19,6 @@ mod runs;
 pub use extend::hull;
 pub use laws::{
     chain_serves_tuples, hull_is_maximal, hull_is_provable, hull_is_there, hull_lies_between,
+    hulls_by_any_criterion,
 };
 pub use sim_rules::Scratch;

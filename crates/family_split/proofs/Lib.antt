@@ -4,3 +4,4 @@ pub mod SplitParts
 pub mod Partition
 pub mod Fewer
 pub mod SideParts
+pub mod Few

@@ -1,6 +1,6 @@
 //! What a reader and the crates above may want to know of the children. Each law is a contract over all families
 //! and hulls; its body is empty.
-ghost use Rattle.std.specs.Prelude.{◌≡◌, ◌<◌, ℕ, Bool, List, IsTrue, IsFalse, All, count_by};
+ghost use Rattle.std.specs.Prelude.{◌≡◌, ◌<◌, ◌^◌, ℕ, Bool, List, length, IsTrue, IsFalse, All, count_by};
 ghost use Rattle.std.specs.List.{list_all};
 ghost use Rattle.bit_rows.specs.Sets.{is_in};
 ghost use Rattle.probe_family.specs.declared.family.Family.{Family};
@@ -34,4 +34,11 @@ pub fn children_are_families()
 pub fn children_have_fewer_tuples()
     ensures { (n : ℕ) (family : Family) (hull : List Bool) → IsFamily n family → HasInside hull family
         → All (λ child. weight_of n child < weight_of n family) (children_of family hull) }
+{}
+
+/// A family has fewer children than there are sets of as many numbers as its tuples have: at most 255, since they have at
+/// most 8.
+pub fn children_are_few()
+    ensures { (n : ℕ) (family : Family) (hull : List Bool) → IsFamily n family
+        → length (children_of family hull) < 2 ^ family.size }
 {}

@@ -9,10 +9,9 @@ mod laws;
 mod numbers;
 mod sides;
 mod split;
-#[cfg(test)]
-mod tests;
 
 pub use laws::{
-    children_are_families, children_have_fewer_tuples, each_tuple_in_hull_or_one_child,
+    children_are_families, children_are_few, children_have_fewer_tuples,
+    each_tuple_in_hull_or_one_child,
 };
 pub use split::children;

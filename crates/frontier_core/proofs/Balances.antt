@@ -12,7 +12,8 @@ use Rattle.probe_family.specs.declared.ending.Ending.TheVariants.{Proved, Failed
 use Rattle.probe_family.specs.declared.family.Family.{Family}
 use Rattle.probe_family.specs.Families.{IsFamily}
 use Rattle.probe_family.specs.Roots.{roots_of}
-use Rattle.frontier_core.specs.Balance.{AsOften, Balanced, EndsRight, failed_rank, failed_ranks, families_of, given_by, given_of}
+use Rattle.probe_family.specs.Often.{AsOften, families_of}
+use Rattle.frontier_core.specs.Balance.{Balanced, EndsRight, failed_rank, failed_ranks, given_by, given_of}
 
 -- the family with its ending
 abbrev pub ended_so : Family → Ending → Ended

@@ -20,7 +20,8 @@ use Rattle.family_split.specs.Children.{children_of}
 use Rattle.family_split.proofs.Fewer.{children_are_lighter}
 use Rattle.family_split.proofs.Partition.{IsLike, children_are_like, children_have}
 use Rattle.extend_set.specs.Hull.{hull_of}
-use Rattle.frontier_core.specs.Balance.{Balanced, EndsRight, failed_ranks, families_of, given_by, given_of}
+use Rattle.probe_family.specs.Often.{families_of}
+use Rattle.frontier_core.specs.Balance.{Balanced, EndsRight, failed_ranks, given_by, given_of}
 use Rattle.frontier_core.specs.Search.{IsSearched}
 use Rattle.frontier_core.proofs.Hulls.{hull_inside}
 use Rattle.frontier_core.proofs.Sums.{sum-flat_map, sum-zero, terms-le, zero-sum}

@@ -21,7 +21,8 @@ use Rattle.family_split.proofs.Partition.{children_are}
 use Rattle.extend_set.specs.Hull.{hull_of}
 use Rattle.frontier_core.specs.declared.event.Event.{Event}
 use Rattle.frontier_core.specs.declared.event.Event.TheVariants.{Take, Proved, Failed, Beyond}
-use Rattle.frontier_core.specs.Balance.{Balanced, EndsRight, failed_ranks, families_of, given_by}
+use Rattle.probe_family.specs.Often.{families_of}
+use Rattle.frontier_core.specs.Balance.{Balanced, EndsRight, failed_ranks, given_by}
 use Rattle.frontier_core.specs.Core.{CoreState, IsCoreOf, IsIdle, after, core_after, core_after_all, core_with, held_by, is_allowed, is_least_provable, waiting_in, with_end, with_its_end}
 use Rattle.frontier_core.specs.Search.{IsSearched, least_rank}
 use Rattle.frontier_core.proofs.Balances.{end_keeps, ended_so, waiting_moves}

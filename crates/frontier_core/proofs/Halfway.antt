@@ -27,7 +27,8 @@ use Rattle.probe_family.proofs.RootTuples.{in_one_root}
 use Rattle.family_split.specs.Children.{children_of}
 use Rattle.family_split.proofs.Partition.{count_children}
 use Rattle.extend_set.specs.Hull.{hull_of}
-use Rattle.frontier_core.specs.Balance.{EndsRight, failed_rank, failed_ranks, families_of, given_by, given_of}
+use Rattle.probe_family.specs.Often.{families_of}
+use Rattle.frontier_core.specs.Balance.{EndsRight, failed_rank, failed_ranks, given_by, given_of}
 use Rattle.frontier_core.specs.Closings.{AreApart, IsSmall, TakesOut, closing_of, closings_of}
 use Rattle.frontier_core.specs.Preorder.{IsWhole}
 use Rattle.frontier_core.specs.Search.{IsSearched}

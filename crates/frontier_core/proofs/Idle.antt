@@ -22,7 +22,8 @@ use Rattle.probe_family.proofs.AllTuples.{least_is_tuple}
 use Rattle.probe_family.proofs.Bits.{one_if}
 use Rattle.probe_family.proofs.RootTuples.{in_one_root}
 use Rattle.family_split.proofs.Partition.{count_children}
-use Rattle.frontier_core.specs.Balance.{Balanced, EndsRight, failed_rank, failed_ranks, families_of, given_by, given_of}
+use Rattle.probe_family.specs.Often.{families_of}
+use Rattle.frontier_core.specs.Balance.{Balanced, EndsRight, failed_rank, failed_ranks, given_by, given_of}
 use Rattle.frontier_core.specs.Search.{IsSearched, least_rank}
 use Rattle.frontier_core.specs.Tree.{first_of}
 use Rattle.frontier_core.proofs.Bounds.{all_are_searched, first_All, mapped_All}

@@ -1,23 +1,25 @@
 -- What the turns of a schedule cite: which events are allowed, and that a core moves on.
-use Rattle.std.proofs.Common.{◌≡◌, ℕ, ◌<◌, ◌≤◌, ◌/◌, ◌%◌, true, false, not, ◌&&◌, List, [], ◌∷◌, length, refl, sym, ap, ◌∙◌, subst, arith, Option, None, Some, Result, Ok, Err, ⊎_elim, is_none, is_some, nat_lt, Bor}
-use Rattle.std.proofs.lemmas.Bool.{and_from, cases_Bool, cond-true, cond-false, lt-ltb, true≢false}
+use Rattle.std.proofs.Common.{◌≡◌, ◌↔◌, ℕ, ◌<◌, ◌≤◌, ◌/◌, ◌%◌, Bool, true, false, ◌&&◌, List, [], ◌∷◌, length, refl, sym, ap, ◌∙◌, subst, arith, Option, None, Some, Result, Ok, Err, ⊎_elim, is_none, is_some, nat_lt, Bor}
+use Rattle.std.proofs.lemmas.Bool.{and_from, cond-true, lt-ltb, true≢false}
 use Rattle.std.proofs.lemmas.List.{get_or_default}
 use Rattle.std.specs.Option.{IfSome, option_copied}
 use Rattle.std.specs.Result.{OnOk}
 use Rattle.expr_table.specs.declared.instance.Instance.{Instance}
-use Rattle.expr_table.specs.Table.{has}
 use Rattle.probe_family.specs.declared.family.Family.{Family}
 use Rattle.frontier_core.specs.declared.event.Event.{Event}
-use Rattle.frontier_core.specs.declared.event.Event.TheVariants.{Take, Proved, Failed, Beyond}
-use Rattle.frontier_core.specs.declared.event.Stepped.TheVariants.{Done, NotAllowed}
-use Rattle.frontier_core.specs.Core.{CoreState, IsIdle, after, answer_to, core_after, held_by, is_allowed, is_least_provable}
+use Rattle.frontier_core.specs.declared.event.Event.TheVariants.{Take, Beyond}
+use Rattle.frontier_core.specs.Core.{CoreState, IsIdle, after, core_after, held_by, is_allowed}
 use Rattle.frontier_core.specs.Schedule.{HasTurn, HoldNone, IsFirstHolder, IsKnown, IsTurnOf, Moves, TakesTurn}
 use Rattle.frontier_core.specs.Search.{least_rank}
-use Rattle.frontier_core.proofs.Allowed.{may_pass, passes}
+use Rattle.frontier_core.proofs.Allowed.{may_pass}
 
 -- a core of which nothing is open or held
 pub idle_from : (core : CoreState) (workers : ℕ) → length core.held ≡ workers → core.open_families ≡ [] → HoldNone core 0 workers → IsIdle core
 idle_from core workers crew none free = (none, λ k d lt. get_or_default core.held k d None lt ∙ free k (omega arith) (omega arith))
+
+-- where the answer is no, the core is not idle
+pub still_busy : (answer : Bool) (core : CoreState) → (answer ≡ true) ↔ IsIdle core → answer ≡ false → IsIdle core → ⊥
+still_busy answer core says working idle = true≢false (sym (says.1 idle) ∙ working)
 
 -- no family is lent where none is held
 pub none_lent : {X : Type 0} (o : Option (Bor X)) (h : Option X) → option_copied o ≡ h → is_some o ≡ false → h ≡ None
@@ -54,20 +56,6 @@ module _ (x : Instance) (t : ℕ) (core : CoreState) where
         by_case (Some family) holds =
             it_moves (Beyond worker best) new (refl, known.least)
             (may_pass x t core worker best family (sym holds) known.least.among (subst (λ o. IfSome o (λ f. best ≤ least_rank x t f)) holds known.below)) is
-
-  pub done_allowed : (event : Event) → Done ≡ answer_to x t core event → is_allowed x t core event ≡ true
-  done_allowed event done = ⊎_elim (λ allowed. allowed) (λ refused. absurd (cc (done ∙ cond-false (is_allowed x t core event) Done NotAllowed refused))) (cases_Bool (is_allowed x t core event))
-
-  pub refused_not : (event : Event) → NotAllowed ≡ answer_to x t core event → is_allowed x t core event ≡ false
-  refused_not event refused = ⊎_elim (λ allowed. absurd (cc (refused ∙ cond-true (is_allowed x t core event) Done NotAllowed allowed))) (λ is. is) (cases_Bool (is_allowed x t core event))
-
-  pub refused_stays : (event : Event) (new : CoreState) → NotAllowed ≡ answer_to x t core event → new ≡ core_after x t core event → new ≡ core
-  refused_stays event new refused is = is ∙ cond-false (is_allowed x t core event) (after x t core event) core (refused_not event refused)
-
-  -- what cannot be proved has failed
-  pub fails_then : (worker : ℕ) (family : Family) → Some family ≡ held_by core worker → is_allowed x t core (Proved worker) ≡ false → is_allowed x t core (Failed worker) ≡ true
-  fails_then worker family has refused =
-      passes x t core worker family (λ f. not (is_least_provable x f)) true has (ap not (sym (passes x t core worker family (is_least_provable x) (is_least_provable x family) has refl) ∙ refused))
 
   pub may_take : (worker place : ℕ) → worker < length core.held → held_by core worker ≡ None → place < length core.open_families → is_allowed x t core (Take worker place) ≡ true
   may_take worker place within free there =

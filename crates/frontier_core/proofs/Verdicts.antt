@@ -19,7 +19,8 @@ use Rattle.frontier_core.specs.declared.event.Event.{Event}
 use Rattle.frontier_core.specs.declared.verdict.Verdict.{Verdict}
 use Rattle.frontier_core.specs.declared.verdict.Verdict.TheVariants.{Secure, Unproved}
 use Rattle.frontier_core.specs.Answer.{IsFailedTuple, IsLeast, IsSameVerdict, IsSearchOf}
-use Rattle.frontier_core.specs.Balance.{AsOften, Balanced, EndsRight, failed_rank, failed_ranks}
+use Rattle.probe_family.specs.Often.{AsOften}
+use Rattle.frontier_core.specs.Balance.{Balanced, EndsRight, failed_rank, failed_ranks}
 use Rattle.frontier_core.specs.Closings.{closings_of}
 use Rattle.frontier_core.specs.Core.{CoreState, IsIdle, core_after_all, first_core}
 use Rattle.frontier_core.specs.Preorder.{IsWhole}

@@ -14,7 +14,8 @@ use Rattle.probe_family.specs.declared.family.Family.{Family}
 use Rattle.probe_family.specs.Families.{IsFamily}
 use Rattle.probe_family.specs.Roots.{roots_of}
 use Rattle.family_split.specs.Children.{children_of}
-use Rattle.frontier_core.specs.Balance.{AsOften, Balanced, EndsRight, failed_rank, failed_ranks, families_of, given_by, given_of}
+use Rattle.probe_family.specs.Often.{AsOften, families_of}
+use Rattle.frontier_core.specs.Balance.{Balanced, EndsRight, failed_rank, failed_ranks, given_by, given_of}
 use Rattle.frontier_core.specs.Closings.{closing_of, closings_of}
 use Rattle.frontier_core.specs.Tree.{closed_under, tree_of, under}
 use Rattle.frontier_core.proofs.Bounds.{first_All, mapped_All}

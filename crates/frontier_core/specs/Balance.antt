@@ -1,5 +1,5 @@
 -- When the families that wait and those that are ended make up a search.
-use Rattle.std.specs.Prelude.{ℕ, ◌≡◌, ◌≤◌, IsTrue, IsFalse, Some, List, [], ◌∷◌, ◌++◌, All, length, map, sum_by}
+use Rattle.std.specs.Prelude.{ℕ, ◌≡◌, ◌≤◌, IsTrue, IsFalse, Some, List, [], ◌∷◌, ◌++◌, All, length}
 use Rattle.std.specs.List.{flat_map}
 use Rattle.expr_table.specs.declared.instance.Instance.{Instance}
 use Rattle.expr_table.specs.Table.{has}
@@ -7,21 +7,13 @@ use Rattle.probe_family.specs.declared.ending.Ended.{Ended}
 use Rattle.probe_family.specs.declared.ending.Ending.{Ending}
 use Rattle.probe_family.specs.declared.ending.Ending.TheVariants.{Proved, Failed, Beyond}
 use Rattle.probe_family.specs.declared.family.Family.{Family}
+use Rattle.probe_family.specs.Often.{AsOften, families_of}
 use Rattle.probe_family.specs.Families.{IsFamily}
 use Rattle.probe_family.specs.Least.{least_of}
 use Rattle.probe_family.specs.Roots.{roots_of}
 use Rattle.family_split.specs.Children.{children_of}
 use Rattle.extend_set.specs.Hull.{hull_of, is_provable_within}
 use Rattle.frontier_core.specs.Search.{least_rank}
-
--- One list has each element as often as the other: however the elements are weighed, both weigh the same. Where the
--- weight is 1 at one element and else 0, that is how often it stands there.
-abbrev pub AsOften : {X : Type 0} → List X → List X → Type 0
-AsOften {X} xs ys = (h : X → ℕ) → sum_by h xs ≡ sum_by h ys
-
--- the families of these records
-abbrev pub families_of : List Ended → List Family
-families_of records = map (λ (e : Ended). e.family) records
 
 -- the families that a family gives as it ends: the children under its hull, where it is proved
 abbrev pub given_by : Family → Ending → List Family

@@ -95,6 +95,7 @@ after x t core (Beyond worker best) = with_its_end core worker (λ family. endin
 abbrev pub core_after : Instance → ℕ → CoreState → Event → CoreState
 core_after x t core event = if is_allowed x t core event then after x t core event else core
 
+-- whether an event is done: exactly where it is allowed
 abbrev pub answer_to : Instance → ℕ → CoreState → Event → Stepped
 answer_to x t core event = if is_allowed x t core event then Done else NotAllowed
 

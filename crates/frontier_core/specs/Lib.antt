@@ -1,4 +1,5 @@
 pub mod Tree
+pub mod First
 pub mod Search
 pub mod Balance
 pub mod Core

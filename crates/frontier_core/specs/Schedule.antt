@@ -1,17 +1,26 @@
 -- Turns that a number draws.
-use Rattle.std.specs.Prelude.{ℕ, ◌≡◌, ◌<◌, ◌≤◌, ◌+◌, ◌*◌, ◌/◌, ◌%◌, ◌^◌, ◌⊎◌, IfSome, IsSome, IsTrue, None, [], length}
+use Rattle.std.specs.Prelude.{ℕ, zero, suc, ◌≡◌, ◌<◌, ◌≤◌, ◌+◌, ◌*◌, ◌/◌, ◌%◌, ◌^◌, ◌⊎◌, IfSome, IsSome, IsTrue, None, [], length}
 use Rattle.expr_table.specs.declared.instance.Instance.{Instance}
 use Rattle.expr_table.specs.Table.{has}
 use Rattle.frontier_core.specs.declared.event.Event.{Event}
 use Rattle.frontier_core.specs.declared.event.Event.TheVariants.{Take, Proved, Failed, Beyond}
 use Rattle.frontier_core.specs.Answer.{IsLeast}
 use Rattle.frontier_core.specs.Balance.{failed_ranks}
-use Rattle.frontier_core.specs.Core.{CoreState, after, held_by, is_allowed}
+use Rattle.frontier_core.specs.Core.{CoreState, IsIdle, after, held_by, is_allowed}
 use Rattle.frontier_core.specs.Search.{least_rank}
 
 -- the state after a draw (a linear congruential generator; Knuth, The Art of Computer Programming, volume 2)
 abbrev pub next_state : ℕ → ℕ
 next_state state = (state * 6364136223846793005 + 1442695040888963407) % 2 ^ 64
+
+-- the state after so many draws
+abbrev pub state_after : ℕ → ℕ → ℕ
+state_after seed zero = seed
+state_after seed (suc n) = next_state (state_after seed n)
+
+-- the number that is drawn where this is the state after the draw; it is below 2^31
+abbrev pub drawn_from : ℕ → ℕ
+drawn_from state = state / 2 ^ 33
 
 -- no worker from one number up to another holds a family
 abbrev pub HoldNone : CoreState → ℕ → ℕ → Type 0
@@ -61,3 +70,17 @@ pub record TakesTurn (x : Instance) (t drawn : ℕ) (old new : CoreState) : Type
   pub worker : ℕ
   pub has_turn : HasTurn old (drawn % length old.held) worker
   pub moves : Moves x t worker (drawn / length old.held) old new
+
+-- The core has come so many turns: something was open or held before each, and the numbers that the seed draws, one after the
+-- other, drew them.
+abbrev pub ComesTo : Instance → ℕ → ℕ → ℕ → CoreState → CoreState → Type 0
+ComesTo x t seed zero first last = last ≡ first
+ComesTo x t seed (suc n) first last =
+    (before : CoreState) × ComesTo x t seed n first before × (IsIdle before → ⊥)
+    × TakesTurn x t (drawn_from (state_after seed (suc n))) before last
+
+-- the core goes to its end by the turns that the seed draws: after the last one nothing is open or held
+pub record RunsTo (x : Instance) (t seed : ℕ) (first last : CoreState) : Type 0 where
+  pub turns : ℕ
+  pub comes : ComesTo x t seed turns first last
+  pub over : IsIdle last

@@ -11,23 +11,32 @@ use Rattle.probe_family.specs.declared.family.Family.{Family}
 use Rattle.probe_family.specs.Families.{weight_of}
 use Rattle.probe_family.specs.Roots.{roots_of}
 use Rattle.family_split.specs.Children.{children_of}
-use Rattle.extend_set.specs.Hull.{hull_of}
+use Rattle.extend_set.specs.Hull.{hull_by, hull_of}
 
 -- the family closed under a hull
 abbrev pub closed_under : Family → List Bool → Closed
 closed_under family hull = record { family = family; hull = hull }
 
--- what a family gives in so many generations
-abbrev pub under_within : Instance → ℕ → Family → List Closed
-under_within x zero family = []
-under_within x (suc n) family =
-    option_map_or (λ hull. closed_under family hull ∷ flat_map (under_within x n) (children_of family hull)) (hull_of x family) []
+-- what a family gives in so many generations, where this is each family's hull, if it has one
+abbrev pub under_within : (Family → Option (List Bool)) → ℕ → Family → List Closed
+under_within hulls zero family = []
+under_within hulls (suc k) family =
+    option_map_or (λ hull. closed_under family hull ∷ flat_map (under_within hulls k) (children_of family hull)) (hulls family) []
 
--- What a family gives: the family closed under its hull, and then what its children give, in order; nothing where it has no
--- hull. A child has fewer tuples than its family, so there are no more generations than the family has tuples; the
--- law `family_gives_itself_and_its_children` says the first sentence.
+-- What a family of tuples of numbers below n gives by a criterion, which a tuple meets or not under each bound: the family closed
+-- under its hull, and then what its children give, in order; nothing where it has no hull. A child has fewer tuples than its
+-- family, so there are no more generations than the family has tuples.
+unfoldable pub under_by : (ℕ → List ℕ → Bool) → ℕ → Family → List Closed
+under_by meets n family = under_within (λ f. hull_by (meets f.bound) n f) (weight_of n family) family
+
+-- the tree by a criterion: the roots in order, each followed by what its children give in order
+unfoldable pub tree_by : (ℕ → List ℕ → Bool) → ℕ → List Family → List Closed
+tree_by meets n roots = flat_map (under_by meets n) roots
+
+-- What a family gives by what is provable. The law `family_gives_itself_and_its_children` says that it is the family closed under
+-- its hull, and then what its children give; `trees_by_any_criterion` says so of each criterion.
 unfoldable pub under : Instance → Family → List Closed
-under x family = under_within x (weight_of (length x.probes) family) family
+under x family = under_within (hull_of x) (weight_of (length x.probes) family) family
 
 -- the proof tree: the roots in order, each followed by what its children give in order
 unfoldable pub tree_of : Instance → ℕ → List Closed

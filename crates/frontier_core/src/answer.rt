@@ -13,7 +13,6 @@ use crate::core_state::Core;
 use crate::preorder::in_preorder;
 use crate::verdict::Verdict;
 use probe_family::{Ended, Ending, NoMemory};
-use std::alloc::Global;
 use tuple_rank::Tuple;
 
 /// The least of some ranks.
@@ -54,7 +53,7 @@ fn failed_tuple(ended: &[Ended], rank: u64) -> Option<Tuple>
 impl Core {
     /// The verdict of a search that is over. It is the same whatever happened in whatever order. A refusal drops the
     /// core.
-    pub fn verdict(self, alloc: Global) -> Result<Verdict, NoMemory>
+    pub fn verdict(self) -> Result<Verdict, NoMemory>
         requires idle { IsIdle self }
         requires search { (x : Instance) × (t : ℕ) × IsSearchOf x t self }
         ensures { IfOk result (λ verdict. (x : Instance) (t : ℕ) → IsSearchOf x t self → IsVerdict x t verdict) }
@@ -65,6 +64,7 @@ impl Core {
             failed,
             ..
         } = self;
+        let alloc = *roots.allocator();
         let Some(rank) = least(&failed) else {
             return Ok(Verdict::Secure(in_preorder(alloc, roots, ended)?));
         };

@@ -7,7 +7,7 @@
 //!
 //! [`work`] does the work on one family. A [`Core`] is the state of a search by several workers: which families are
 //! open, which are held, and how the others ended. It does one [`Event`] after the other, and whatever their order, the
-//! verdict is the same.
+//! verdict is the same; [`Core::finish`] does events until nothing is open or held.
 #![tactic(auto)]
 
 mod answer;
@@ -26,10 +26,10 @@ pub use core_state::Core;
 pub use event::{Event, Stepped};
 pub use laws::{
     events_keep_the_search, every_list_of_events_tells_the_verdict,
-    family_gives_itself_and_its_children, verdict_is_one,
+    family_gives_itself_and_its_children, first_is_the_first_unproved, trees_by_any_criterion,
+    verdict_is_one,
 };
 pub use one_family::{Outcome, work};
 pub use probe_family::NoMemory;
-pub use schedule::run_schedule;
 pub use stack::stack_up;
 pub use verdict::Verdict;

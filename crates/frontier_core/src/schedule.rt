@@ -1,20 +1,21 @@
-//! A search by several workers in turn, in an order that a number draws.
-ghost use Rattle.std.specs.Prelude.{◌≡◌, ◌<◌, ◌≤◌, ◌/◌, ◌^◌, ℕ, IfOk, IfSome, IsSome, MatchOption, OnOk, length};
+//! Stepping a core to its end: its workers have turns, in an order that a number draws.
+ghost use Rattle.std.specs.Prelude.{◌≡◌, ◌<◌, ◌≤◌, ◌^◌, ℕ, IfOk, IfSome, IsSome, MatchOption, OnOk, length};
 ghost use Rattle.expr_table.specs.declared.instance.Instance.{Instance};
 ghost use Rattle.expr_table.specs.Instance.{IsFitting};
 ghost use Rattle.probe_family.specs.Families.{IsFamily};
 ghost use Rattle.frontier_core.specs.Core.{IsCoreOf, IsIdle, held_by};
-ghost use Rattle.frontier_core.specs.Schedule.{ComesFirst, HasTurn, HoldNone, IsFirstHolder, IsKnown, Moves, TakesTurn, next_state};
-ghost use Rattle.frontier_core.specs.Verdict.{IsVerdict};
+ghost use Rattle.frontier_core.specs.Schedule.{ComesFirst, HasTurn, HoldNone, IsFirstHolder, IsKnown, Moves, RunsTo};
+ghost use Rattle.frontier_core.specs.Schedule.{TakesTurn, drawn_from, next_state};
+ghost use Rattle.frontier_core.specs.Search.{IsSearched};
 
 use crate::answer::least;
 use crate::core_state::Core;
-use crate::event::{Event, Stepped};
-use crate::verdict::Verdict;
+use crate::event::Event;
+use crate::one_family::find_hull;
 use expr_table::Instance;
-use probe_family::NoMemory;
+use family_split::children;
+use probe_family::{Ending, NoMemory};
 use sim_rules::Scratch;
-use std::alloc::Global;
 use tuple_rank::Binomials;
 
 /// Draws numbers below 2^31 from the last one's state.
@@ -27,7 +28,7 @@ impl Draws {
     /// The next number.
     fn next(&mut self) -> u32
         ensures state { self.new.state ≡ next_state self.old.state }
-        ensures drawn { result ≡ self.new.state / 2 ^ 33 }
+        ensures drawn { result ≡ drawn_from self.new.state }
         ensures small { result < 2 ^ 31 }
     {
         self.state = self
@@ -88,10 +89,10 @@ impl Core {
         Some(best)
     }
 
-    /// Ends the family that a worker holds, which comes before each that failed: as proved, or else as failed.
+    /// Ends the family that a worker holds, which comes before each that failed: as proved where it has a hull, and else as
+    /// failed. The hull is looked for once.
     fn prove_or_fail(
         &mut self,
-        alloc: Global,
         instance: &Instance,
         counts: &Binomials,
         scratch: &mut Scratch,
@@ -100,16 +101,24 @@ impl Core {
         requires fitting { IsFitting instance.now }
         requires made_for { scratch.old ≡ length instance.now.table.nodes }
         requires counted { counts.now.n ≡ length instance.now.probes }
-        requires balanced { IsCoreOf instance.now counts.now.t self.old }
+        requires family { IfSome (held_by self.old worker) (IsSearched instance.now counts.now.t) }
         requires held { IsSome (held_by self.old worker) }
         requires first { ComesFirst instance.now counts.now.t self.old worker }
         ensures stays_fit { scratch.new ≡ scratch.old }
         ensures moves { (number : ℕ) → OnOk result (Moves instance.now counts.now.t worker number self.old self.new) }
     {
-        match self.step(alloc, instance, counts, scratch, Event::Proved { worker })? {
-            Stepped::Done => Ok(()),
-            Stepped::NotAllowed => {
-                let _ = self.step(alloc, instance, counts, scratch, Event::Failed { worker })?;
+        let Some(family) = self.held(worker) else {
+            unreachable!()
+        };
+        match find_hull(self.allocator(), instance, scratch, family)? {
+            Some(hull) => {
+                let given = children(self.allocator(), family, &hull)?;
+                self.end(worker, Ending::Proved { hull }, given)?;
+                Ok(())
+            }
+            None => {
+                let rank = counts.rank(&family.least());
+                self.end(worker, Ending::Failed { rank }, Vec::new(self.allocator()))?;
                 Ok(())
             }
         }
@@ -119,7 +128,6 @@ impl Core {
     /// tuple, and else as proved or failed.
     fn end_turn(
         &mut self,
-        alloc: Global,
         instance: &Instance,
         counts: &Binomials,
         scratch: &mut Scratch,
@@ -136,17 +144,16 @@ impl Core {
         match self.known_before(counts, worker) {
             Some(best) => {
                 let beyond = Event::Beyond { worker, best };
-                let _ = self.step(alloc, instance, counts, scratch, beyond)?;
+                let _ = self.step(instance, counts, scratch, beyond)?;
                 Ok(())
             }
-            None => self.prove_or_fail(alloc, instance, counts, scratch, worker),
+            None => self.prove_or_fail(instance, counts, scratch, worker),
         }
     }
 
     /// One turn: a worker that holds no family takes an open one, and one that holds a family ends it.
     fn turn(
         &mut self,
-        alloc: Global,
         instance: &Instance,
         counts: &Binomials,
         scratch: &mut Scratch,
@@ -165,40 +172,43 @@ impl Core {
     {
         let worker = self.whose_turn(drawn % workers, workers);
         if self.held(worker).is_some() {
-            return self.end_turn(alloc, instance, counts, scratch, worker);
+            return self.end_turn(instance, counts, scratch, worker);
         }
         let place = (drawn / workers) as usize % self.open_families.len();
         let take = Event::Take {
             worker,
             place: place as u32,
         };
-        let _ = self.step(alloc, instance, counts, scratch, take)?;
+        let _ = self.step(instance, counts, scratch, take)?;
         Ok(())
     }
-}
 
-/// The verdict by a search in which so many workers take turns, as the seed draws them.
-pub fn run_schedule(
-    alloc: Global,
-    instance: &Instance,
-    counts: &Binomials,
-    order: u32,
-    workers: u32,
-    seed: u64,
-) -> Result<Verdict, NoMemory>
-    requires fitting { IsFitting instance.now }
-    requires counted { counts.now ≡ record { n = length instance.now.probes; t = order } }
-    requires some { 1 ≤ order }
-    requires few { order ≤ 8 }
-    requires crew { 1 ≤ workers }
-    ensures { IfOk result (IsVerdict instance.now order) }
-{
-    let mut scratch = Scratch::of_rows(alloc, instance.table.rows())?;
-    let mut core = Core::make(alloc, instance, order, workers)?;
-    let mut draws = Draws { state: seed };
-    while !core.idle() {
-        let drawn = draws.next();
-        core.turn(alloc, instance, counts, &mut scratch, workers, drawn)?;
+    /// Steps the core to its end: while something is open or held, a worker has the turn that the next number draws, of
+    /// those that begin with a seed. A refusal drops the core.
+    pub fn finish(
+        self,
+        instance: &Instance,
+        counts: &Binomials,
+        scratch: &mut Scratch,
+        workers: u32,
+        seed: u64,
+    ) -> Result<Core, NoMemory>
+        requires fitting { IsFitting instance.now }
+        requires made_for { scratch.old ≡ length instance.now.table.nodes }
+        requires counted { counts.now.n ≡ length instance.now.probes }
+        requires balanced { IsCoreOf instance.now counts.now.t self }
+        requires crew { length self.held ≡ workers }
+        requires some { 1 ≤ workers }
+        ensures stays_fit { scratch.new ≡ scratch.old }
+        ensures turns { IfOk result (RunsTo instance.now counts.now.t seed self) }
+        ensures balanced { IfOk result (IsCoreOf instance.now counts.now.t) }
+    {
+        let mut core = self;
+        let mut draws = Draws { state: seed };
+        while !core.idle() {
+            let drawn = draws.next();
+            core.turn(instance, counts, scratch, workers, drawn)?;
+        }
+        Ok(core)
     }
-    core.verdict(alloc)
 }

@@ -31,6 +31,11 @@ fn note_failed(failed: &mut Vec<u64>, how: &Ending)
 }
 
 impl Core {
+    /// Where the core's lists lie, and what it makes for them.
+    pub(crate) fn allocator(&self) -> Global {
+        *self.roots.allocator()
+    }
+
     /// The family that a worker holds.
     pub(crate) fn held(&self, worker: u32) -> Option<&Family>
         ensures { option_copied result ≡ held_by self.now worker }
@@ -42,7 +47,12 @@ impl Core {
     }
 
     /// Ends the family that a worker holds, and opens what it gives. A refusal leaves the core as it was.
-    fn end(&mut self, worker: u32, how: Ending, mut given: Vec<Family>) -> Result<(), NoMemory>
+    pub(crate) fn end(
+        &mut self,
+        worker: u32,
+        how: Ending,
+        mut given: Vec<Family>,
+    ) -> Result<(), NoMemory>
         requires held { IsSome (held_by self.old worker) }
         requires given { IfSome (held_by self.old worker) (λ family. given.items ≡ given_by family how) }
         ensures ended { OnOk result (self.new ≡ with_its_end self.old worker (λ _. how)) }
@@ -81,7 +91,6 @@ impl Core {
     /// The family that the worker holds is closed under its hull.
     fn prove(
         &mut self,
-        alloc: Global,
         instance: &Instance,
         scratch: &mut Scratch,
         worker: u32,
@@ -97,9 +106,9 @@ impl Core {
         let Some(family) = self.held(worker) else {
             return Ok(Stepped::NotAllowed);
         };
-        match find_hull(alloc, instance, scratch, family)? {
+        match find_hull(self.allocator(), instance, scratch, family)? {
             Some(hull) => {
-                let given = children(alloc, family, &hull)?;
+                let given = children(self.allocator(), family, &hull)?;
                 self.end(worker, Ending::Proved { hull }, given)?;
                 Ok(Stepped::Done)
             }
@@ -110,7 +119,6 @@ impl Core {
     /// The least tuple of the family that the worker holds is not proved.
     fn fail(
         &mut self,
-        alloc: Global,
         instance: &Instance,
         counts: &Binomials,
         scratch: &mut Scratch,
@@ -128,22 +136,16 @@ impl Core {
         let Some(family) = self.held(worker) else {
             return Ok(Stepped::NotAllowed);
         };
-        if find_hull(alloc, instance, scratch, family)?.is_some() {
+        if find_hull(self.allocator(), instance, scratch, family)?.is_some() {
             return Ok(Stepped::NotAllowed);
         }
         let rank = counts.rank(&family.least());
-        self.end(worker, Ending::Failed { rank }, Vec::new(alloc))?;
+        self.end(worker, Ending::Failed { rank }, Vec::new(self.allocator()))?;
         Ok(Stepped::Done)
     }
 
     /// The family that the worker holds has no tuple before the one of this rank, which failed.
-    fn pass_over(
-        &mut self,
-        alloc: Global,
-        counts: &Binomials,
-        worker: u32,
-        best: u64,
-    ) -> Result<Stepped, NoMemory>
+    fn pass_over(&mut self, counts: &Binomials, worker: u32, best: u64) -> Result<Stepped, NoMemory>
         requires family { IfSome (held_by self.old worker)
             (λ family. IsFamily counts.now.n family × (family.size ≤ counts.now.t)) }
         ensures answer { (x : Instance) → counts.now.n ≡ length x.probes
@@ -162,14 +164,13 @@ impl Core {
         if !self.failed.contains(&best) {
             return Ok(Stepped::NotAllowed);
         }
-        self.end(worker, Ending::Beyond { best }, Vec::new(alloc))?;
+        self.end(worker, Ending::Beyond { best }, Vec::new(self.allocator()))?;
         Ok(Stepped::Done)
     }
 
     /// Does an event where it is allowed. Where it is not, or memory is refused, the core stays what it was.
     pub fn step(
         &mut self,
-        alloc: Global,
         instance: &Instance,
         counts: &Binomials,
         scratch: &mut Scratch,
@@ -187,9 +188,9 @@ impl Core {
     {
         match event {
             Event::Take { worker, place } => Ok(self.take(worker, place)),
-            Event::Proved { worker } => self.prove(alloc, instance, scratch, worker),
-            Event::Failed { worker } => self.fail(alloc, instance, counts, scratch, worker),
-            Event::Beyond { worker, best } => self.pass_over(alloc, counts, worker, best),
+            Event::Proved { worker } => self.prove(instance, scratch, worker),
+            Event::Failed { worker } => self.fail(instance, counts, scratch, worker),
+            Event::Beyond { worker, best } => self.pass_over(counts, worker, best),
         }
     }
 }

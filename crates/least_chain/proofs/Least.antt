@@ -12,7 +12,7 @@ use Rattle.once_random.specs.Numbers.{least_below}
 use Rattle.once_random.proofs.Facts.{same_tests}
 use Rattle.once_random.proofs.Least.{none_more, found_at}
 use Rattle.live_rows.proofs.Numbers.{has_at}
-use Rattle.least_chain.specs.LeastFirst.{numbers_of}
+use Rattle.least_chain.specs.LeastFirst.{numbers_in}
 
 -- what holds of each element holds of what the list has
 all_has : (P : ℕ → Type 0) (xs : List ℕ) → All P xs → (r : ℕ) → has xs r ≡ true → P r
@@ -31,16 +31,16 @@ pub permuted_has : (xs ys : List ℕ) → IsPermutation xs ys → (r : ℕ) → 
 permuted_has xs ys same r = same_tests (has xs r) (has ys r) (moved_has xs ys same r) (moved_has ys xs (IsPermutation-sym xs ys same) r)
 
 -- the numbers of a heap whose elements moved
-pub numbers_moved : (xs ys : List (Reverse ℕ)) → IsPermutation xs ys → (r : ℕ) → has (numbers_of xs) r ≡ has (numbers_of ys) r
-numbers_moved xs ys same = permuted_has (numbers_of xs) (numbers_of ys) (IsPermutation-map (λ (item : Reverse ℕ). item.0) xs ys same)
+pub numbers_moved : (xs ys : List (Reverse ℕ)) → IsPermutation xs ys → (r : ℕ) → has (numbers_in xs) r ≡ has (numbers_in ys) r
+numbers_moved xs ys same = permuted_has (numbers_in xs) (numbers_in ys) (IsPermutation-map (λ (item : Reverse ℕ). item.0) xs ys same)
 
 -- the top of a heap is its least number
-pub least_of : (x : Reverse ℕ) (xs : List (Reverse ℕ)) → IsUpperBound (λ (y z : Reverse ℕ). nat_cmp z.0 y.0) x xs → (r : ℕ) → has (numbers_of xs) r ≡ true → x.0 ≤ r
+pub least_of : (x : Reverse ℕ) (xs : List (Reverse ℕ)) → IsUpperBound (λ (y z : Reverse ℕ). nat_cmp z.0 y.0) x xs → (r : ℕ) → has (numbers_in xs) r ≡ true → x.0 ≤ r
 least_of x [] above r h = absurd (true≢false (sym h))
 least_of x (y ∷ ys) above r h =
     ⊎_elim (λ e. subst (λ n. x.0 ≤ n) (eqb-true y.0 r e) (ge_from_not_lt y.0 x.0 above.0))
     (λ later. least_of x ys above.1 r later)
-    (or_cases (y.0 == r) (has (numbers_of ys) r) h)
+    (or_cases (y.0 == r) (has (numbers_in ys) r) h)
 
 module _ (test : ℕ → Bool) where
   -- none passes below n

@@ -5,14 +5,13 @@ use Rattle.expr_table.specs.declared.node.Node.{Node}
 use Rattle.expr_table.specs.declared.node.Node.TheVariants as node
 use Rattle.expr_table.specs.declared.node.Row.{Row}
 use Rattle.expr_table.specs.Table.{node_at, sides, has}
-use Rattle.once_random.specs.Cutting.{live_parents}
 use Rattle.once_random.specs.Cuts.{is_random, is_fresh, has_no_parent_but, masks, is_masked, is_allowed}
-use Rattle.once_random.specs.Live.{is_live, is_live_parent, AreRows}
+use Rattle.once_random.specs.Live.{AreLower, is_live, is_live_parent, AreRows, live_parents}
 use Rattle.once_random.proofs.Alone.{alone}
-use Rattle.once_random.proofs.Facts.{IsEarlier, all_below-at, all_below-from, live-below, live-fewer}
+use Rattle.once_random.proofs.Facts.{all_below-at, all_below-from, live-below, live-fewer}
 use Rattle.live_rows.specs.Shown.{serves}
 
-module _ (nodes : List Node) (lower : IsEarlier nodes) (roots : List ℕ) (within : AreRows nodes roots) where
+module _ (nodes : List Node) (lower : AreLower nodes) (roots : List ℕ) (within : AreRows nodes roots) where
   -- what a live parent is
   pub parent_parts : (cuts : List ℕ) (side e : ℕ) → is_live_parent nodes roots cuts side e ≡ true
       → (is_live nodes roots cuts e ≡ true) × (has cuts e ≡ false) × (has (sides (node_at nodes e)) side ≡ true)

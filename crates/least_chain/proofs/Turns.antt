@@ -8,23 +8,20 @@ use Rattle.expr_table.specs.declared.instance.ProbeRoots.{ProbeRoots}
 use Rattle.expr_table.specs.declared.node.Node.{Node}
 use Rattle.expr_table.specs.declared.node.Node.TheVariants as node
 use Rattle.expr_table.specs.declared.node.Row.{Row}
-use Rattle.expr_table.specs.Instance.{rows_of}
 use Rattle.expr_table.specs.Table.{node_at, has, numbers}
-use Rattle.once_random.specs.Cuts.{is_allowed, is_masked, IsChain, cuts_of, least_after, least_chain, next_cut}
-use Rattle.once_random.specs.Cutting.{live_parents}
-use Rattle.once_random.specs.Live.{AreRows, is_live, is_live_parent}
-use Rattle.once_random.specs.Tuples.{probe_at, roots_of}
+use Rattle.once_random.specs.Cuts.{is_xor, is_allowed, is_masked, IsChain, cuts_of, least_after, least_chain, next_cut}
+use Rattle.once_random.specs.Live.{AreLower, AreRows, is_live, is_live_parent, live_parents}
+use Rattle.once_random.specs.Tuples.{roots_of, roots_over}
 use Rattle.once_random.proofs.Chains.{least_after-none, least_after-some}
-use Rattle.once_random.proofs.Facts.{IsEarlier, has_first, latest_first, live-side}
+use Rattle.once_random.proofs.Facts.{has_first, latest_first, live-side}
 use Rattle.live_rows.specs.declared.mark.Mark.{Mark}
-use Rattle.live_rows.specs.Leaves.{roots_over}
 use Rattle.live_rows.specs.Lists.{are_distinct}
 use Rattle.live_rows.specs.Marks.{mark_at, queued_count, is_spare}
 use Rattle.live_rows.specs.Shown.{Shows, serves}
 use Rattle.live_rows.specs.State.{State}
 use Rattle.live_rows.proofs.Facts.{roots_within, cuts_within}
 use Rattle.live_rows.proofs.Numbers.{length_within}
-use Rattle.least_chain.specs.Waiting.{is_xor, AreWaiting, IsCutting, IsTurn}
+use Rattle.least_chain.specs.Waiting.{AreWaiting, IsCutting, IsTurn}
 use Rattle.least_chain.proofs.Parents.{parent_parts}
 use Rattle.least_chain.proofs.Waits.{waiting_same, waiting_spent, waiting_cut, least_next, none_next}
 
@@ -62,7 +59,7 @@ length-cuts_of : (chain : List Row) → length (cuts_of chain) ≡ length chain
 length-cuts_of chain = length-reverse (numbers chain) ∙ length-map chain (λ (row : Row). row.0)
 
 -- a spare row that one row alone reads serves a cut of it
-pub spare_serves : (nodes : List Node) → IsEarlier nodes → (roots cuts : List ℕ) (marks : List Mark) → Shows nodes roots cuts marks → (row p : ℕ) → is_spare (mark_at marks row) ≡ true
+pub spare_serves : (nodes : List Node) → AreLower nodes → (roots cuts : List ℕ) (marks : List Mark) → Shows nodes roots cuts marks → (row p : ℕ) → is_spare (mark_at marks row) ≡ true
     → live_parents nodes roots cuts row ≡ 1 → is_live_parent nodes roots cuts row p ≡ true → serves nodes roots cuts row ≡ true
 spare_serves nodes lower roots cuts marks shows row p spare one only =
     let within = roots_within nodes roots cuts marks shows in
@@ -71,11 +68,6 @@ spare_serves nodes lower roots cuts marks shows row p spare one only =
     let l = live-side nodes lower roots within cuts p row is.0 is.1 is.2 in
     and_from _ _ (sym (shows.fresh row l) ∙ parts.0) (and_from _ _ (sym (ap not (shows.root row)) ∙ parts.1) (eq-eqb _ 1 one))
 
--- the rows that the probes of a tuple see
-pub roots_of-over : (x : Instance) (tuple : List ℕ) → roots_over x.probes tuple ≡ roots_of x tuple
-roots_of-over x [] = refl
-roots_of-over x (p ∷ ps) = ap (λ rows. rows_of (probe_at x.probes p) ++ rows) (roots_of-over x ps)
-
 -- before any cut
 pub begun : (x : Instance) (probes : List ProbeRoots) (tuple : List ℕ) (chain : List Row) (state : State) (waiting : List ℕ) → probes ≡ x.probes → chain ≡ []
     → Shows x.table.nodes (roots_over probes tuple) [] state.marks → AreWaiting x.table.nodes (roots_over probes tuple) [] [] waiting → state.alone ≡ [] → queued_count state.marks ≤ length state.found
@@ -83,7 +75,7 @@ pub begun : (x : Instance) (probes : List ProbeRoots) (tuple : List ℕ) (chain 
 unfolding least_chain
 begun x probes tuple chain state waiting is empty shows waits taken few =
     let nodes = x.table.nodes in
-    let roots : roots_over probes tuple ≡ roots_of x tuple = ap (λ (ps : List ProbeRoots). roots_over ps tuple) is ∙ roots_of-over x tuple in
+    let roots : roots_over probes tuple ≡ roots_of x tuple = ap (λ (ps : List ProbeRoots). roots_over ps tuple) is in
     subst (λ (c : List Row). IsCutting nodes (roots_of x tuple) c state waiting) (sym empty)
     (record {
       rows = λ k d l. absurd (none k l);
@@ -102,7 +94,7 @@ begun x probes tuple chain state waiting is empty shows waits taken few =
     all n = omega arith
 
 -- where none waits, the chain is the least one
-pub done : (nodes : List Node) → IsEarlier nodes → (roots : List ℕ) (chain : List Row) (state : State) (waiting : List ℕ) → waiting ≡ [] → IsCutting nodes roots chain state waiting
+pub done : (nodes : List Node) → AreLower nodes → (roots : List ℕ) (chain : List Row) (state : State) (waiting : List ℕ) → waiting ≡ [] → IsCutting nodes roots chain state waiting
     → cuts_of chain ≡ least_chain nodes roots
 done nodes lower roots chain state waiting none is =
     let within = roots_within nodes roots (cuts_of chain) state.marks is.shows in
@@ -111,7 +103,7 @@ done nodes lower roots chain state waiting none is =
     ∙ is.rest
 
 -- the least that waits is taken out
-pub turned : (nodes : List Node) → IsEarlier nodes → (roots : List ℕ) (chain : List Row) (state : State) (old new : List ℕ) (row : ℕ) → ((e : ℕ) → has old e ≡ (row == e || has new e))
+pub turned : (nodes : List Node) → AreLower nodes → (roots : List ℕ) (chain : List Row) (state : State) (old new : List ℕ) (row : ℕ) → ((e : ℕ) → has old e ≡ (row == e || has new e))
     → ((e : ℕ) → has old e ≡ true → row ≤ e) → IsCutting nodes roots chain state old → IsTurn nodes roots chain state new row
 turned nodes lower roots chain state old new row same least is = record {
   cutting = record {
@@ -126,7 +118,7 @@ turned nodes lower roots chain state old new row same least is = record {
   least = λ e h. least e (same e ∙ or_right (row == e) (has new e) h);
 }
 
-module _ (nodes : List Node) (lower : IsEarlier nodes) (roots : List ℕ) (chain : List Row) (state : State) (waiting : List ℕ) (row : Row) (turn : IsTurn nodes roots chain state waiting row.0) where
+module _ (nodes : List Node) (lower : AreLower nodes) (roots : List ℕ) (chain : List Row) (state : State) (waiting : List ℕ) (row : Row) (turn : IsTurn nodes roots chain state waiting row.0) where
   within : AreRows nodes roots
   within = roots_within nodes roots (cuts_of chain) state.marks turn.cutting.shows
 

@@ -5,17 +5,16 @@ use Rattle.expr_table.specs.declared.node.Node.{Node}
 use Rattle.expr_table.specs.declared.node.Node.TheVariants as node
 use Rattle.expr_table.specs.declared.node.Row.{Row}
 use Rattle.expr_table.specs.Table.{node_at, has}
-use Rattle.once_random.specs.Cutting.{live_parents}
-use Rattle.once_random.specs.Cuts.{is_fresh, has_no_parent_but, masks, is_masked, is_allowed, may_be_cut, next_cut}
-use Rattle.once_random.specs.Live.{is_live, is_live_parent, AreRows}
-use Rattle.once_random.proofs.Facts.{IsEarlier, has_first, has_left, has_right}
+use Rattle.once_random.specs.Cuts.{is_xor, is_fresh, has_no_parent_but, masks, is_masked, is_allowed, may_be_cut, next_cut}
+use Rattle.once_random.specs.Live.{AreLower, is_live, is_live_parent, AreRows, live_parents}
+use Rattle.once_random.proofs.Facts.{has_first, has_left, has_right}
 use Rattle.live_rows.specs.Shown.{serves}
 use Rattle.live_rows.proofs.Facts.{taken-has}
-use Rattle.least_chain.specs.Waiting.{is_xor, AreWaiting}
+use Rattle.least_chain.specs.Waiting.{AreWaiting}
 use Rattle.least_chain.proofs.Least.{none_passes, least_passes}
 use Rattle.least_chain.proofs.Parents.{parent_parts, parent_from, parent_before, counted_alone, masks_serves, same_parent, serves_allowed, allowed-more}
 
-module _ (nodes : List Node) (lower : IsEarlier nodes) (roots : List ℕ) (within : AreRows nodes roots) where
+module _ (nodes : List Node) (lower : AreLower nodes) (roots : List ℕ) (within : AreRows nodes roots) where
   -- where all that serve stand alone, none need wait
   pub waiting_begun : (cuts alone : List ℕ) → ((row : ℕ) → serves nodes roots cuts row ≡ true → has alone row ≡ true) → AreWaiting nodes roots cuts alone []
   waiting_begun cuts alone each = record {

@@ -5,8 +5,8 @@ use Rattle.std.specs.Ordering.{nat_cmp}
 use Rattle.std.specs.declared.cmp.Reverse.{Reverse}
 
 -- the numbers of a heap
-abbrev pub numbers_of : List (Reverse ℕ) → List ℕ
-numbers_of items = map (λ (item : Reverse ℕ). item.0) items
+abbrev pub numbers_in : List (Reverse ℕ) → List ℕ
+numbers_in items = map (λ (item : Reverse ℕ). item.0) items
 
 -- no number is less than the one above it
 abbrev pub IsLeastFirst : List (Reverse ℕ) → Type 0

@@ -1,18 +1,13 @@
 -- The state while the least chain is made; private contracts cite this.
-use Rattle.std.specs.Prelude.{ℕ, ◌+◌, ◌-◌, ◌*◌, ◌≤◌, ◌<◌, ◌≡◌, ◌⊎◌, Bool, true, false, IsTrue, IsFalse, List, [], ◌∷◌, All, length}
+use Rattle.std.specs.Prelude.{ℕ, ◌+◌, ◌-◌, ◌*◌, ◌≤◌, ◌<◌, ◌≡◌, ◌⊎◌, IsTrue, IsFalse, List, [], ◌∷◌, All, length}
 use Rattle.expr_table.specs.declared.node.Node.{Node}
-use Rattle.expr_table.specs.declared.node.Node.TheVariants as node
 use Rattle.expr_table.specs.declared.node.Row.{Row}
 use Rattle.expr_table.specs.Table.{node_at, has}
-use Rattle.once_random.specs.Cuts.{IsChain, cuts_of, is_allowed, least_after, least_chain, masks}
+use Rattle.once_random.specs.Cuts.{is_xor, IsChain, cuts_of, is_allowed, least_after, least_chain, masks}
 use Rattle.once_random.specs.Live.{is_live_parent}
 use Rattle.live_rows.specs.Marks.{queued_count}
 use Rattle.live_rows.specs.Shown.{Shows}
 use Rattle.live_rows.specs.State.{State}
-
-abbrev pub is_xor : Node → Bool
-is_xor (node.Xor a b) = true
-is_xor n = false
 
 -- Each Xor that a side masks waits, or its side stands alone and was not taken yet; and each row that waits may be cut,
 -- if it is not cut by now.

@@ -11,9 +11,6 @@ ghost use Rattle.live_rows.specs.Shown.{IsShown, Shows};
 ghost use Rattle.live_rows.specs.State.{IsClear};
 ghost use Rattle.least_chain.specs.Waiting.{AreWaiting, IsCutting, IsTurn, work};
 
-#[cfg(test)]
-mod tests;
-
 use crate::NoMemory;
 use crate::least_first::LeastFirst;
 use bit_rows::BitRow;

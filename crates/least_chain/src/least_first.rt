@@ -17,11 +17,11 @@ pub struct LeastFirst {
 impl Model for LeastFirst {
     ghost use Rattle.std.specs.Prelude.{ℕ, List};
     ghost use Rattle.std.specs.BinaryHeap.{heap_items};
-    ghost use Rattle.least_chain.specs.LeastFirst.{IsLeastFirst, numbers_of};
+    ghost use Rattle.least_chain.specs.LeastFirst.{IsLeastFirst, numbers_in};
 
     ghost Value = { List ℕ };
 
-    ghost view = { λ l. numbers_of (heap_items l.numbers) };
+    ghost view = { λ l. numbers_in (heap_items l.numbers) };
 
     ghost invariant = { λ l. IsLeastFirst (heap_items l.numbers) };
 }

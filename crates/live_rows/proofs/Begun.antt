@@ -7,12 +7,11 @@ use Rattle.std.proofs.Math.Seq.{take-length}
 use Rattle.expr_table.specs.declared.node.Node.{Node}
 use Rattle.expr_table.specs.Table.{node_at, sides, has}
 use Rattle.once_random.specs.Cuts.{is_fresh, is_random}
-use Rattle.once_random.specs.Cutting.{live_parents}
-use Rattle.once_random.specs.Live.{is_live, is_live_parent}
+use Rattle.once_random.specs.Live.{is_live, is_live_parent, live_parents, AreLower}
 use Rattle.once_random.proofs.Facts.{count_none, count_below-same, live-side}
 use Rattle.live_rows.specs.declared.mark.Mark.{Mark}
 use Rattle.live_rows.specs.Marks.{mark_at, empty_mark, is_lone, is_spare, queued_count}
-use Rattle.live_rows.specs.Shown.{AreLower, Shows, mixed_below, live_count, serves}
+use Rattle.live_rows.specs.Shown.{Shows, mixed_below, live_count, serves}
 use Rattle.live_rows.specs.Spread.{reads, IsCounted, IsSpread, rooted, offered, is_offered}
 use Rattle.live_rows.specs.State.{IsFound, IsQueue}
 use Rattle.live_rows.proofs.Counts.{count_exists, mixed_same}

@@ -7,13 +7,13 @@ use Rattle.once_random.proofs.Facts.{has-append_left, has-append_right, has_firs
 use Rattle.live_rows.specs.declared.mark.Mark.{Mark}
 use Rattle.live_rows.specs.Lists.{Held, none_held, are_distinct}
 use Rattle.live_rows.specs.Marks.{mark_at, empty_mark, is_spare}
-use Rattle.live_rows.specs.State.{IsFound, IsQueue, IsKept, IsRested}
+use Rattle.live_rows.specs.State.{IsFound, IsQueue, IsState, IsRested}
 use Rattle.live_rows.proofs.Marks.{mark_at-same, mark_at-other, queue_within}
 use Rattle.live_rows.proofs.Numbers.{distinct_pop, has_push}
 
 -- nothing is known of any row
 pub kept_empty : (marks : List Mark) (found alone : List ℕ) → length marks < 2 ^ 32 → ((r : ℕ) → mark_at marks r ≡ empty_mark) → found ≡ [] → alone ≡ []
-    → IsKept (record { marks = marks; found = found; alone = alone })
+    → IsState (record { marks = marks; found = found; alone = alone })
 kept_empty marks found alone few none no_found no_alone = record {
   few = few;
   found = subst (IsFound marks) (sym no_found) (record {
@@ -35,7 +35,7 @@ kept_empty marks found alone few none no_found no_alone = record {
 -- a new struct
 pub made : (marks : List Mark) (found alone lost counted : Held) (leaves : List ℕ) (rows : ℕ) → length marks ≡ rows → rows < 2 ^ 32 → ((r : ℕ) → mark_at marks r ≡ empty_mark)
     → found ≡ none_held rows → alone ≡ none_held rows → lost ≡ none_held rows → counted ≡ none_held rows → length leaves ≡ rows → ((g : ℕ) → slice_index_or leaves g 0 ≡ 0)
-    → IsKept (record { marks = marks; found = found.numbers; alone = alone.numbers }) × IsRested (length marks) found alone lost counted leaves
+    → IsState (record { marks = marks; found = found.numbers; alone = alone.numbers }) × IsRested (length marks) found alone lost counted leaves
 made marks found alone lost counted leaves rows len few none is_found is_alone is_lost is_counted leaves_len zeros = (
   kept_empty marks found.numbers alone.numbers (omega arith) none (ap (λ (h : Held). h.numbers) is_found) (ap (λ (h : Held). h.numbers) is_alone),
   record {

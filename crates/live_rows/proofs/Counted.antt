@@ -4,12 +4,12 @@ use Rattle.std.proofs.lemmas.Bool.{cases_Bool, and_parts, and_from, not-true, bo
 use Rattle.expr_table.specs.declared.node.Node.{Node}
 use Rattle.expr_table.specs.Table.{node_at, sides, has}
 use Rattle.once_random.specs.Cuts.{is_fresh}
-use Rattle.once_random.specs.Live.{AreRows, IsClosed, is_live, is_live_parent}
+use Rattle.once_random.specs.Live.{AreRows, IsClosed, is_live, is_live_parent, AreLower}
 use Rattle.once_random.specs.Numbers.{count_below}
 use Rattle.once_random.proofs.Facts.{same_tests, count_below-same, count_some, live-root, live-side, live-from, live-least}
 use Rattle.live_rows.specs.declared.mark.Mark.{Mark}
 use Rattle.live_rows.specs.Marks.{mark_at}
-use Rattle.live_rows.specs.Shown.{AreLower, Shows}
+use Rattle.live_rows.specs.Shown.{Shows}
 use Rattle.live_rows.specs.Spread.{reads, IsCounted}
 use Rattle.live_rows.proofs.Counts.{count_exists, mixed_same}
 use Rattle.live_rows.proofs.Marks.{row_within}

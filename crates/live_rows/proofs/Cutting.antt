@@ -4,15 +4,14 @@ use Rattle.std.proofs.lemmas.Bool.{cases_Bool, cases_eq, and_from, and_left, and
 use Rattle.expr_table.specs.declared.node.Node.{Node}
 use Rattle.expr_table.specs.Table.{node_at, sides, has}
 use Rattle.once_random.specs.Cuts.{is_fresh, is_random}
-use Rattle.once_random.specs.Cutting.{live_parents}
-use Rattle.once_random.specs.Live.{AreAmong, is_live}
+use Rattle.once_random.specs.Live.{AreAmong, is_live, live_parents, AreLower}
 use Rattle.once_random.specs.Numbers.{count_below}
 use Rattle.once_random.proofs.Facts.{count_below-same}
 use Rattle.live_rows.specs.declared.mark.Mark.{Mark}
-use Rattle.live_rows.specs.Lists.{with_number}
+use Rattle.live_rows.specs.Lists.{with_added}
 use Rattle.live_rows.specs.Losing.{CountsAs, Cuts, freed, is_counting, is_serving, IsRead, KeepsHeld, Loses, marked_live}
 use Rattle.live_rows.specs.Marks.{mark_at, is_spare, queued_count}
-use Rattle.live_rows.specs.Shown.{AreLower, IsShown, Shows, live_count, serves}
+use Rattle.live_rows.specs.Shown.{IsShown, Shows, live_count, serves}
 use Rattle.live_rows.specs.Spread.{IsCounted}
 use Rattle.live_rows.specs.State.{IsFound}
 use Rattle.live_rows.proofs.Counted.{is_reader, settle, unsettle}
@@ -46,7 +45,7 @@ live_shown nodes roots cuts marks shows =
     ∙ count_below-same (length nodes) (λ r. (mark_at marks r).live) (is_live nodes roots cuts) (λ r _. shows.live r)
 
 -- a row that is live was found
-pub found_live : (marks : List Mark) (found : List ℕ) → IsFound marks found → (r : ℕ) → (mark_at marks r).live ≡ true → with_number found r ≡ found
+pub found_live : (marks : List Mark) (found : List ℕ) → IsFound marks found → (r : ℕ) → (mark_at marks r).live ≡ true → with_added found r ≡ found
 found_live marks found listed r l =
     cond-true (has found r) _ _
     (listed.each r ∙ ⊎_elim (λ t. t) (λ f. absurd (both_ways (mark_at marks r).live (ap (λ (m : Mark). m.live) (listed.empty r f)) l)) (cases_Bool (mark_at marks r).touched))

@@ -3,10 +3,9 @@ use Rattle.std.proofs.Common.{◌≡◌, ℕ, ◌≤◌, true, false, not, ◌&&
 use Rattle.std.proofs.lemmas.Bool.{cases_eq, and_parts, and_from, and_left, or_parts, not-true, ne_eqb}
 use Rattle.expr_table.specs.declared.node.Node.{Node}
 use Rattle.expr_table.specs.Table.{node_at, sides, has}
-use Rattle.once_random.specs.Cutting.{live_parents}
-use Rattle.once_random.specs.Live.{AreRows, is_live, is_live_parent}
+use Rattle.once_random.specs.Live.{AreRows, is_live, is_live_parent, live_parents, AreLower}
 use Rattle.once_random.proofs.Facts.{count_below-same, count_mono, live-fewer, live-same}
-use Rattle.live_rows.specs.Shown.{AreLower, live_count}
+use Rattle.live_rows.specs.Shown.{live_count}
 
 module _ (nodes : List Node) (lower : AreLower nodes) (roots : List ℕ) (within : AreRows nodes roots) (e : ℕ) (cuts : List ℕ) where
   pub live_parent-fewer : (row parent : ℕ) → is_live_parent nodes roots (e ∷ cuts) row parent ≡ true → is_live_parent nodes roots cuts row parent ≡ true

@@ -11,7 +11,7 @@ use Rattle.live_rows.specs.declared.mark.Mark.{Mark}
 use Rattle.live_rows.specs.Lists.{Held, are_distinct}
 use Rattle.live_rows.specs.Losing.{CountsAs, without_parent, freed, IsLosing, IsRead, IsTaken, KeepsHeld, Loses, is_counting}
 use Rattle.live_rows.specs.Marks.{mark_at, is_lone}
-use Rattle.live_rows.specs.Shown.{AreLower}
+use Rattle.once_random.specs.Live.{AreLower}
 use Rattle.live_rows.specs.Spread.{IsCounted, reads, offered}
 use Rattle.live_rows.proofs.Counts.{count_more, mixed_less, mixed_same}
 use Rattle.live_rows.proofs.Numbers.{has_push, distinct_pop, or_turned}

@@ -5,7 +5,7 @@ use Rattle.std.proofs.lemmas.List.{append-nil, length-append}
 use Rattle.expr_table.specs.Table.{has}
 use Rattle.once_random.specs.Numbers.{count_below}
 use Rattle.once_random.proofs.Facts.{has-++, has_first, count_below-le, count_none}
-use Rattle.live_rows.specs.Lists.{are_distinct, with_number}
+use Rattle.live_rows.specs.Lists.{are_distinct, with_added}
 use Rattle.live_rows.proofs.Counts.{count_more}
 
 pub or-false : (b : Bool) → (b || false) ≡ b
@@ -105,7 +105,7 @@ pub taken-length : (old new : List ℕ) (x : ℕ) → old ≡ new ++ x ∷ [] �
 taken-length old new x is = let e : length old ≡ length (new ++ x ∷ []) = ap length is in omega (arith, length-append new (x ∷ []))
 
 -- a list with a number at its end where it was not there is the list, and more
-pub with_more : (xs : List ℕ) (x : ℕ) → (more : List ℕ) × (with_number xs x ≡ xs ++ more)
+pub with_more : (xs : List ℕ) (x : ℕ) → (more : List ℕ) × (with_added xs x ≡ xs ++ more)
 with_more xs x =
     ⊎_elim
     (λ t. ([], cond-true (has xs x) xs (xs ++ x ∷ []) t ∙ sym (append-nil xs)))

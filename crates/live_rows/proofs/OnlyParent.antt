@@ -3,8 +3,7 @@ use Rattle.std.proofs.Common.{◌≡◌, ℕ, zero, suc, ◌+◌, ◌<◌, Bool,
 use Rattle.std.specs.Int.Bits.{xor_zero_r}
 use Rattle.std.proofs.lemmas.Bool.{cases_Bool, cond-true, cond-false}
 use Rattle.expr_table.specs.declared.node.Node.{Node}
-use Rattle.once_random.specs.Cutting.{live_parents}
-use Rattle.once_random.specs.Live.{is_live_parent}
+use Rattle.once_random.specs.Live.{is_live_parent, live_parents}
 use Rattle.once_random.specs.Numbers.{count_below}
 use Rattle.live_rows.specs.declared.mark.Mark.{Mark}
 use Rattle.live_rows.specs.Marks.{mark_at}

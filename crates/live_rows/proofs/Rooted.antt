@@ -9,10 +9,10 @@ use Rattle.expr_table.specs.Table.{has, numbers}
 use Rattle.std.specs.Option.{MatchOption}
 use Rattle.bit_rows.specs.Sets.{is_in, members_below}
 use Rattle.bit_rows.proofs.Facts.{IsLeastFrom, NoneFrom, first_member-from, first_member-is, next_member-is, members_below-none}
-use Rattle.once_random.specs.Tuples.{probe_at}
+use Rattle.once_random.specs.Tuples.{probe_at, roots_over}
 use Rattle.once_random.proofs.Facts.{has-++}
 use Rattle.live_rows.specs.declared.mark.Mark.{Mark}
-use Rattle.live_rows.specs.Leaves.{member_from, roots_over}
+use Rattle.live_rows.specs.Chosen.{chosen_from}
 use Rattle.live_rows.specs.Marks.{mark_at}
 use Rattle.live_rows.specs.Spread.{as_root, rooted}
 use Rattle.live_rows.proofs.Marks.{each_mark}
@@ -95,14 +95,14 @@ module _ (probes : List ProbeRoots) (chosen : List Bool) (start marks : List Mar
 
 -- ---- the least member from a start on
 
-member_is : (xs : List Bool) (start : ℕ) → MatchOption (member_from xs start) (NoneFrom xs start) (IsLeastFrom xs start)
+member_is : (xs : List Bool) (start : ℕ) → MatchOption (chosen_from xs start) (NoneFrom xs start) (IsLeastFrom xs start)
 member_is xs zero = subst (λ found. MatchOption found (NoneFrom xs 0) (IsLeastFrom xs 0)) (sym (first_member-from xs)) (first_member-is xs)
 member_is xs (suc k) = next_member-is xs k
 
-pub member_some : (xs : List Bool) (start p : ℕ) → Some p ≡ member_from xs start → IsLeastFrom xs start p
+pub member_some : (xs : List Bool) (start p : ℕ) → Some p ≡ chosen_from xs start → IsLeastFrom xs start p
 member_some xs start p is = subst (λ found. MatchOption found (NoneFrom xs start) (IsLeastFrom xs start)) (sym is) (member_is xs start)
 
-pub member_none : (xs : List Bool) (start : ℕ) → None ≡ member_from xs start → NoneFrom xs start
+pub member_none : (xs : List Bool) (start : ℕ) → None ≡ chosen_from xs start → NoneFrom xs start
 member_none xs start is = subst (λ found. MatchOption found (NoneFrom xs start) (IsLeastFrom xs start)) (sym is) (member_is xs start)
 
 -- the members before the least from a start on are those before the start

@@ -5,12 +5,11 @@ use Rattle.std.proofs.lemmas.List.{take_more, take_all, get_or-set_same, get_or-
 use Rattle.expr_table.specs.declared.node.Node.{Node}
 use Rattle.expr_table.specs.declared.node.Node.TheVariants as node
 use Rattle.expr_table.specs.Table.{node_at, has}
-use Rattle.once_random.specs.Groups.{is_group}
+use Rattle.once_random.specs.Groups.{is_group, is_leaf_of, live_leaves_of, are_within}
 use Rattle.once_random.specs.Live.{is_live}
 use Rattle.once_random.specs.Numbers.{all_below, count_below}
 use Rattle.once_random.proofs.Facts.{all_below-at, all_below-from, count_below-le, count_below-same, count_none, same_tests}
 use Rattle.live_rows.specs.declared.mark.Mark.{Mark}
-use Rattle.live_rows.specs.Leaves.{is_leaf_of, live_leaves_of, are_within}
 use Rattle.live_rows.specs.Lists.{Held, none_held, are_distinct}
 use Rattle.live_rows.specs.Marks.{mark_at}
 use Rattle.live_rows.specs.Shown.{Shows}

@@ -17,5 +17,5 @@ are_distinct [] = true
 are_distinct (x ∷ xs) = not (has xs x) && are_distinct xs
 
 -- the list, with the number at its end where it was not there
-abbrev pub with_number : List ℕ → ℕ → List ℕ
-with_number xs x = if has xs x then xs else xs ++ x ∷ []
+abbrev pub with_added : List ℕ → ℕ → List ℕ
+with_added xs x = if has xs x then xs else xs ++ x ∷ []

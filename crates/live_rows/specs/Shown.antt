@@ -1,18 +1,13 @@
 -- What marks say of roots and cuts, which are lists of row numbers, the latest cut first.
-use Rattle.std.specs.Prelude.{ℕ, zero, suc, ◌≡◌, ◌==◌, ◌<◌, Bool, not, ◌&&◌, if◌then◌else◌, IsTrue, List, length}
+use Rattle.std.specs.Prelude.{ℕ, zero, suc, ◌≡◌, ◌==◌, Bool, not, ◌&&◌, if◌then◌else◌, IsTrue, List, length}
 use Rattle.std.specs.Int.Bits.{bit_xor}
 use Rattle.expr_table.specs.declared.node.Node.{Node}
-use Rattle.expr_table.specs.Table.{node_at, sides, has}
+use Rattle.expr_table.specs.Table.{has}
 use Rattle.once_random.specs.Cuts.{is_fresh}
-use Rattle.once_random.specs.Cutting.{live_parents}
-use Rattle.once_random.specs.Live.{is_live, is_live_parent}
+use Rattle.once_random.specs.Live.{is_live, is_live_parent, live_parents}
 use Rattle.once_random.specs.Numbers.{count_below}
 use Rattle.live_rows.specs.declared.mark.Mark.{Mark}
 use Rattle.live_rows.specs.Marks.{mark_at}
-
--- sides have lesser rows
-abbrev pub AreLower : List Node → Type 0
-AreLower nodes = (row side : ℕ) → IsTrue (has (sides (node_at nodes row)) side) → side < row
 
 -- the exclusive or of the numbers below n that pass
 abbrev pub mixed_below : ℕ → (ℕ → Bool) → ℕ

@@ -25,7 +25,7 @@ pub record IsQueue (marks : List Mark) (alone : List ℕ) : Type 0 where
   pub one : (row : ℕ) → IsTrue (mark_at marks row).queued → (mark_at marks row).parents ≤ 1
 
 -- what holds of every state
-pub record IsKept (s : State) : Type 0 where
+pub record IsState (s : State) : Type 0 where
   pub few : length s.marks < 2 ^ 32
   pub found : IsFound s.marks s.found
   pub queue : IsQueue s.marks s.alone

@@ -3,7 +3,7 @@ use Rattle.std.specs.Prelude.{ℕ, ◌≡◌, nat_lt, Bool, ◌&&◌, IsTrue, Li
 use Rattle.expr_table.specs.declared.node.Node.{Node}
 use Rattle.expr_table.specs.Table.{node_at, has}
 use Rattle.live_rows.specs.declared.mark.Mark.{Mark}
-use Rattle.live_rows.specs.Leaves.{is_leaf_of}
+use Rattle.once_random.specs.Groups.{is_leaf_of}
 use Rattle.live_rows.specs.Lists.{are_distinct}
 use Rattle.live_rows.specs.Marks.{mark_at}
 

@@ -4,10 +4,12 @@ ghost use Rattle.expr_table.specs.declared.node.Row.{Row};
 ghost use Rattle.expr_table.specs.Instance.{rows_of};
 ghost use Rattle.expr_table.specs.Table.{has, numbers, sides};
 ghost use Rattle.bit_rows.specs.Sets.{members};
-ghost use Rattle.live_rows.specs.Leaves.{member_from, roots_over};
-ghost use Rattle.live_rows.specs.Lists.{with_number};
+ghost use Rattle.once_random.specs.Live.{AreLower};
+ghost use Rattle.once_random.specs.Tuples.{roots_over};
+ghost use Rattle.live_rows.specs.Chosen.{chosen_from};
+ghost use Rattle.live_rows.specs.Lists.{with_added};
 ghost use Rattle.live_rows.specs.Marks.{mark_at, queued_count};
-ghost use Rattle.live_rows.specs.Shown.{AreLower, Shows, live_count, serves};
+ghost use Rattle.live_rows.specs.Shown.{Shows, live_count, serves};
 ghost use Rattle.live_rows.specs.Spread.{IsSpread, as_root, is_offered, noted, offered, rooted, with_parent};
 ghost use Rattle.live_rows.specs.State.{IsClear, IsFound, IsQueue};
 
@@ -57,8 +59,8 @@ fn mark_probe(marks: &mut [Mark], found: &mut NumberList, rows: &[Row])
 }
 
 /// The least member that is at least `start`.
-fn member_from(set: &BitRow, start: u32) -> Option<u32>
-    ensures { result ≡ member_from set.now start }
+fn chosen_from(set: &BitRow, start: u32) -> Option<u32>
+    ensures { result ≡ chosen_from set.now start }
 {
     if start == 0 {
         return set.first();
@@ -80,7 +82,7 @@ fn mark_roots(marks: &mut [Mark], found: &mut NumberList, probes: &[ProbeRoots],
     // so its members are numbers of 32 bits
     let _length = chosen.len();
     let mut start = 0;
-    while let Some(probe) = member_from(chosen, start) {
+    while let Some(probe) = chosen_from(chosen, start) {
         mark_probe(marks, found, probes[probe as usize].rows.as_slice());
         start = probe + 1;
     }
@@ -93,7 +95,7 @@ fn add_parent(marks: &mut [Mark], found: &mut NumberList, row: Row, parent: Row)
     requires room { length marks.old ≤ found.old.room }
     requires small { (mark_at marks.old row.0).parents + 1 < 2 ^ 32 }
     ensures marks { marks.new ≡ slice_set marks.old row.0 (with_parent parent.0 (mark_at marks.old row.0)) }
-    ensures found { found.new ≡ record found.old { numbers = with_number found.old.numbers row.0 } }
+    ensures found { found.new ≡ record found.old { numbers = with_added found.old.numbers row.0 } }
     ensures kept { IsFound marks.new found.new.numbers }
 {
     touch(marks, found, row);

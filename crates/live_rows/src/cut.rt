@@ -2,11 +2,11 @@
 ghost use Rattle.std.specs.Prelude.{◌≡◌, ◌+◌, ◌<◌, ◌≤◌, ◌⊎◌, ◌∷◌, ◌++◌, [], ◌&&◌, ℕ, List, true, IsTrue, IsFalse, length, slice_set, if◌then◌else◌};
 ghost use Rattle.expr_table.specs.declared.node.Node.TheVariants as node;
 ghost use Rattle.expr_table.specs.Table.{has, node_at};
-ghost use Rattle.once_random.specs.Live.{AreAmong};
-ghost use Rattle.live_rows.specs.Lists.{with_number};
+ghost use Rattle.once_random.specs.Live.{AreAmong, AreLower};
+ghost use Rattle.live_rows.specs.Lists.{with_added};
 ghost use Rattle.live_rows.specs.Losing.{CountsAs, Cuts, IsLosing, IsRead, IsTaken, KeepsHeld, Loses, as_cut, freed, is_counting, marked_live, without_parent};
 ghost use Rattle.live_rows.specs.Marks.{mark_at, queued_count};
-ghost use Rattle.live_rows.specs.Shown.{AreLower, IsShown, Shows, live_count, serves};
+ghost use Rattle.live_rows.specs.Shown.{IsShown, Shows, live_count, serves};
 ghost use Rattle.live_rows.specs.Spread.{IsCounted};
 
 use crate::live_rows::LiveRows;
@@ -214,7 +214,7 @@ impl LiveRows {
         requires shown { IsShown (S.nodes source.now) self.old.marks }
         ensures shows { (roots cuts : List ℕ) → Shows (S.nodes source.now) roots cuts self.old.marks
             → Shows (S.nodes source.now) roots (row.0 ∷ cuts) self.new.marks }
-        ensures found { self.new.found ≡ with_number self.old.found row.0 }
+        ensures found { self.new.found ≡ with_added self.old.found row.0 }
         ensures kept_found { IsTrue (mark_at self.old.marks row.0).live → self.new.found ≡ self.old.found }
         ensures alone { AreAmong self.old.alone self.new.alone }
         ensures served { (roots cuts : List ℕ) → Shows (S.nodes source.now) roots cuts self.old.marks

@@ -20,8 +20,6 @@ mod mark;
 mod marking;
 mod number_list;
 mod steps;
-#[cfg(test)]
-mod tests;
 mod within;
 
 pub use expr_table::{NoMemory, Node, ProbeRoots, Row};

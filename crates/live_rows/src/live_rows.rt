@@ -28,14 +28,14 @@ pub struct LiveRows {
 
 impl Model for LiveRows {
     ghost use Rattle.std.specs.Prelude.{length};
-    ghost use Rattle.live_rows.specs.State.{State, IsKept, IsRested};
+    ghost use Rattle.live_rows.specs.State.{State, IsState, IsRested};
 
     ghost Value = { State };
 
     ghost view = { λ s. record { marks = s.marks.items; found = s.found.numbers; alone = s.alone.numbers } };
 
     ghost invariant = { λ s.
-        IsKept (record { marks = s.marks.items; found = s.found.numbers; alone = s.alone.numbers })
+        IsState (record { marks = s.marks.items; found = s.found.numbers; alone = s.alone.numbers })
         × IsRested (length s.marks.items) s.found s.alone s.lost s.counted s.leaves.items };
 }
 

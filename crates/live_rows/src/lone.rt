@@ -1,8 +1,7 @@
 //! Rows with an only live parent.
 ghost use Rattle.std.specs.Prelude.{◌≡◌, ◌≢◌, ◌<◌, ◌++◌, ◌∷◌, [], ℕ, List, IsTrue, MatchOption, length};
 ghost use Rattle.expr_table.specs.declared.node.Node.{Node};
-ghost use Rattle.once_random.specs.Cutting.{live_parents};
-ghost use Rattle.once_random.specs.Live.{is_live_parent};
+ghost use Rattle.once_random.specs.Live.{is_live_parent, live_parents};
 ghost use Rattle.live_rows.specs.Marks.{is_spare, mark_at};
 ghost use Rattle.live_rows.specs.Shown.{Shows};
 

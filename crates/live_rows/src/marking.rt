@@ -1,6 +1,6 @@
 //! Lists that follow the marks: the rows found, and those that may serve a cut.
 ghost use Rattle.std.specs.Prelude.{◌≡◌, ◌<◌, ◌≤◌, ◌++◌, ◌∷◌, [], true, length, slice_set, if◌then◌else◌};
-ghost use Rattle.live_rows.specs.Lists.{with_number};
+ghost use Rattle.live_rows.specs.Lists.{with_added};
 ghost use Rattle.live_rows.specs.Marks.{mark_at, is_lone};
 ghost use Rattle.live_rows.specs.State.{IsFound, IsQueue};
 
@@ -14,7 +14,7 @@ pub fn touch(marks: &mut [Mark], found: &mut NumberList, row: Row)
     requires found { IsFound marks.old found.old.numbers }
     requires room { length marks.old ≤ found.old.room }
     ensures marks { marks.new ≡ slice_set marks.old row.0 (record (mark_at marks.old row.0) { touched = true }) }
-    ensures found { found.new ≡ record found.old { numbers = with_number found.old.numbers row.0 } }
+    ensures found { found.new ≡ record found.old { numbers = with_added found.old.numbers row.0 } }
     ensures kept { IsFound marks.new found.new.numbers }
 {
     let mut mark = marks[row.0 as usize];

@@ -2,9 +2,8 @@
 ghost use Rattle.std.specs.Prelude.{◌≡◌, ◌+◌, ◌<◌, ◌≤◌, ◌^◌, ◌&&◌, [], ℕ, List, All, IfSome, length, nat_le, slice_index_or, slice_set};
 ghost use Rattle.expr_table.specs.declared.node.Node.TheVariants.{Input};
 ghost use Rattle.expr_table.specs.Table.{node_at};
-ghost use Rattle.once_random.specs.Groups.{is_group};
+ghost use Rattle.once_random.specs.Groups.{is_group, are_within, is_leaf_of};
 ghost use Rattle.once_random.specs.Numbers.{all_below, count_below};
-ghost use Rattle.live_rows.specs.Leaves.{are_within, is_leaf_of};
 ghost use Rattle.live_rows.specs.Shown.{Shows};
 ghost use Rattle.live_rows.specs.State.{IsFound};
 ghost use Rattle.live_rows.specs.Tally.{IsTally, is_marked_leaf};

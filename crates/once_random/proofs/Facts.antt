@@ -1,10 +1,9 @@
 -- What callers cite of live rows, cuts, and what is provable.
 
 -- lists of rows, and the sides of nodes
-pub use Rattle.once_random.proofs.LiveRows.{IsEarlier, has-append, has-append_left, has-append_right}
-pub use Rattle.once_random.proofs.Marking.{has-++}
-pub use Rattle.once_random.proofs.Chains.{has-reverse, latest_first}
-pub use Rattle.once_random.proofs.Sides.{has_first, has_later, has_left, has_right, node_read, sides_before}
+pub use Rattle.once_random.proofs.LiveRows.{has-++, has-append, has-append_left, has-append_right}
+pub use Rattle.once_random.proofs.Chains.{latest_first}
+pub use Rattle.once_random.proofs.Sides.{has_first, has_later, has_left, has_right, node_read}
 -- numbers below a number that pass a test
 pub use Rattle.once_random.proofs.Alone.{all_below-at, all_below-from, count_none, count_some, same_tests}
 pub use Rattle.once_random.proofs.Counting.{count_below-le, count_below-same}
@@ -15,11 +14,10 @@ pub use Rattle.once_random.proofs.LiveRows.{live-root, live-side, live-from, liv
 -- the least chain, and cuts after which no live row may be cut
 pub use Rattle.once_random.proofs.LeastChain.{least_is_chain, least_is_saturated}
 pub use Rattle.once_random.proofs.Saturated.{least_live}
-pub use Rattle.once_random.proofs.Provable.{saturated_live, saturated_chain_decides, least_chain_decides}
+pub use Rattle.once_random.proofs.Provable.{saturated_live, saturated_within, saturated_decides, least_decides, least_chain_decides}
 -- some of the roots, and the same roots in another order
 pub use Rattle.once_random.proofs.Subsets.{live-among, allowed-among, chain-among, live-same_rows, may_be_cut-same_rows, least_chain-same_rows}
 pub use Rattle.once_random.proofs.Provable.{within-among, provable-among, provable-same_rows}
 -- groups and tuples
-pub use Rattle.once_random.proofs.Provable.{within_is_each_group, roots_are_rows, roots_among, proved_is_provable}
-pub use Rattle.once_random.proofs.RootRows.{roots_of-append}
-pub use Rattle.once_random.proofs.OneProbe.{members-one}
+pub use Rattle.once_random.proofs.Leaves.{inputs_within, leaves_by_number}
+pub use Rattle.once_random.proofs.Provable.{within_is_each, within_is_each_group, roots_are_rows, roots_among, proved_is_provable}

@@ -1,16 +1,12 @@
 pub mod LiveRows
 pub mod Sides
-pub mod Marking
 pub mod Counting
 pub mod Alone
-pub mod Shown
 pub mod Least
 pub mod Chains
-pub mod RootRows
-pub mod LeafCounts
 pub mod Saturated
 pub mod LeastChain
 pub mod Subsets
+pub mod Leaves
 pub mod Provable
-pub mod OneProbe
 pub mod Facts

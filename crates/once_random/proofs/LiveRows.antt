@@ -1,13 +1,14 @@
 -- What is live, by its roots, its parents and its cuts.
 use Rattle.std.proofs.Common.{◌≡◌, ◌⊎◌, ℕ, zero, suc, ◌+◌, ◌<◌, ◌≤◌, Bool, true, false, not, ◌&&◌, ◌||◌, cond, List, [], ◌∷◌, ◌++◌, length, refl, sym, ap, ◌∙◌, subst, arith, true≢false, ⊎_elim, inl, inr, ◌==◌}
 use Rattle.std.proofs.lemmas.Bool.{cases_Bool, cond-true, cond-false, cases_lt, cases_eq, and_parts, and_from, or_cases, or_parts, or_left, or_right, ne_eqb, not-true, both_ways}
+use Rattle.std.proofs.Math.Bool.{or_assoc}
 use Rattle.expr_table.specs.declared.node.Node.{Node}
 use Rattle.expr_table.specs.Table.{node_at, sides, has}
-use Rattle.once_random.specs.Live.{reached, is_live, AreRows, IsClosed, IsLeastClosed}
+use Rattle.once_random.specs.Live.{AreLower, reached, is_live, AreRows, IsClosed, IsLeastClosed}
 
--- sides have lesser rows
-abbrev pub IsEarlier : List Node → Type 0
-IsEarlier nodes = (row side : ℕ) → has (sides (node_at nodes row)) side ≡ true → side < row
+pub has-++ : (xs ys : List ℕ) (r : ℕ) → has (xs ++ ys) r ≡ (has xs r || has ys r)
+has-++ [] ys r = refl
+has-++ (x ∷ xs) ys r = ap (λ b. (x == r) || b) (has-++ xs ys r) ∙ sym (or_assoc (x == r) (has xs r) (has ys r))
 
 pub has-append_left : (xs ys : List ℕ) (r : ℕ) → has xs r ≡ true → has (xs ++ ys) r ≡ true
 has-append_left [] ys r h = absurd (true≢false (sym h))
@@ -34,7 +35,7 @@ module _ (nodes : List Node) where
       ⊎_elim (λ e. subst (λ l. has l r ≡ true) (sym (cond-true (wants cuts wanted row) _ _ e)) (has-append_right (sides (node_at nodes row)) wanted r h))
       (λ e. subst (λ l. has l r ≡ true) (sym (cond-false (wants cuts wanted row) _ _ e)) h) (cases_Bool (wants cuts wanted row))
 
-  module _ (earlier : IsEarlier nodes) where
+  module _ (earlier : AreLower nodes) where
     pub reached-keeps : (cuts : List ℕ) (k : ℕ) (wanted : List ℕ) (r : ℕ) → has wanted r ≡ true → has (reached nodes cuts k wanted) r ≡ true
     reached-keeps cuts zero wanted r h = h
     reached-keeps cuts (suc row) wanted r h = reached-keeps cuts row (next cuts wanted row) r (next-keeps cuts wanted row r h)

@@ -4,14 +4,13 @@ use Rattle.std.proofs.lemmas.Bool.{cases_Bool, cases_eq, and_parts, and_from, or
 use Rattle.expr_table.specs.declared.node.Node.{Node}
 use Rattle.expr_table.specs.declared.node.Node.TheVariants as node
 use Rattle.expr_table.specs.Table.{node_at, sides, has}
-use Rattle.once_random.specs.Live.{is_live, is_live_parent, AreRows}
+use Rattle.once_random.specs.Live.{AreLower, is_live, is_live_parent, AreRows}
 use Rattle.once_random.specs.Cuts.{is_random, masks, is_masked, may_be_cut, IsChain, IsSaturated}
 use Rattle.once_random.proofs.Alone.{all_below-at, all_below-from}
 use Rattle.once_random.proofs.LiveRows as live
-use Rattle.once_random.proofs.LiveRows.{IsEarlier}
 use Rattle.once_random.proofs.Sides.{has_first, has_later}
 
-module _ (nodes : List Node) (earlier : IsEarlier nodes) (roots : List ℕ) (within : AreRows nodes roots) (cuts : List ℕ) where
+module _ (nodes : List Node) (earlier : AreLower nodes) (roots : List ℕ) (within : AreRows nodes roots) (cuts : List ℕ) where
   -- each of these rows is cut already or is not live
   abbrev AreSpent : List ℕ → Type 0
   AreSpent others = (q : ℕ) → has others q ≡ true → (has cuts q ≡ true) ⊎ (is_live nodes roots cuts q ≡ false)

@@ -1,12 +1,11 @@
 -- The sides of an And and of an Xor.
-use Rattle.std.proofs.Common.{◌≡◌, ◌⊎◌, ℕ, ◌<◌, true, List, [], ◌∷◌, slice_get, Some, refl, sym, subst, ⊎_elim, ◌==◌}
+use Rattle.std.proofs.Common.{◌≡◌, ◌⊎◌, ℕ, true, List, [], ◌∷◌, slice_get, Some, refl, sym, subst, ⊎_elim, ◌==◌}
 use Rattle.std.proofs.lemmas.Bool.{or_left, or_right, eq-eqb}
 use Rattle.std.proofs.lemmas.Option.{get_or_from_slice_get}
 use Rattle.expr_table.specs.declared.node.Node.{Node}
 use Rattle.expr_table.specs.declared.node.Node.TheVariants as node
 use Rattle.expr_table.specs.declared.node.Row.{Row}
 use Rattle.expr_table.specs.Table.{node_at, sides, has}
-use Rattle.once_random.proofs.LiveRows.{IsEarlier}
 
 pub has_first : (x : ℕ) (xs : List ℕ) → has (x ∷ xs) x ≡ true
 has_first x xs = or_left (x == x) (has xs x) (eq-eqb x x refl)
@@ -24,7 +23,3 @@ module _ (n : Node) (a b : Row) (is : (n ≡ node.And a b) ⊎ (n ≡ node.Xor a
 -- the node that was read in a row
 pub node_read : (nodes : List Node) (row : ℕ) (n : Node) → slice_get nodes row ≡ Some n → node_at nodes row ≡ n
 node_read nodes row n h = get_or_from_slice_get nodes row n node.Zero h
-
--- the sides of the node that was read in a row are lesser rows
-pub sides_before : (nodes : List Node) → IsEarlier nodes → (row : ℕ) (n : Node) → slice_get nodes row ≡ Some n → (side : ℕ) → has (sides n) side ≡ true → side < row
-sides_before nodes earlier row n read side h = earlier row side (subst (λ m. has (sides m) side ≡ true) (sym (node_read nodes row n read)) h)

@@ -23,6 +23,11 @@ abbrev pub is_random : Node → Bool
 is_random (node.Random i) = true
 is_random n = false
 
+-- an exclusive or
+abbrev pub is_xor : Node → Bool
+is_xor (node.Xor a b) = true
+is_xor n = false
+
 -- the row is a random leaf, or was cut and so is as good as one
 abbrev pub is_fresh : List Node → List ℕ → ℕ → Bool
 is_fresh nodes cuts row = is_random (node_at nodes row) || has cuts row

@@ -4,4 +4,3 @@ pub mod Cuts
 pub mod Groups
 pub mod Provable
 pub mod Tuples
-pub mod Cutting

@@ -3,6 +3,7 @@
 use Rattle.std.specs.Prelude.{ℕ, zero, suc, ◌<◌, ◌≡◌, Bool, not, ◌&&◌, if◌then◌else◌, IsTrue, List, ◌++◌, length}
 use Rattle.expr_table.specs.declared.node.Node.{Node}
 use Rattle.expr_table.specs.Table.{node_at, sides, has}
+use Rattle.once_random.specs.Numbers.{count_below}
 
 -- What is reached from the rows wanted, over the rows below n, from the last to the first; a row that is cut leads no
 -- further.
@@ -16,6 +17,10 @@ reached nodes cuts (suc row) wanted =
 -- it holds and that is not cut. The law `live_is_least` says that it is that set.
 unfoldable pub is_live : List Node → List ℕ → List ℕ → ℕ → Bool
 is_live nodes roots cuts row = has (reached nodes cuts (length nodes) roots) row
+
+-- sides have lesser rows
+abbrev pub AreLower : List Node → Type 0
+AreLower nodes = (row side : ℕ) → IsTrue (has (sides (node_at nodes row)) side) → side < row
 
 -- the list's numbers are rows
 abbrev pub AreRows : List Node → List ℕ → Type 0
@@ -45,3 +50,7 @@ pub record IsLeastClosed (nodes : List Node) (roots cuts : List ℕ) (holds : �
 abbrev pub is_live_parent : List Node → List ℕ → List ℕ → ℕ → ℕ → Bool
 is_live_parent nodes roots cuts row parent =
     (is_live nodes roots cuts parent && not (has cuts parent)) && has (sides (node_at nodes parent)) row
+
+-- how many live parents the row has
+abbrev pub live_parents : List Node → List ℕ → List ℕ → ℕ → ℕ
+live_parents nodes roots cuts row = count_below (length nodes) (is_live_parent nodes roots cuts row)

@@ -1,6 +1,5 @@
--- The numbers below a number that pass a test, and lists of counts.
-use Rattle.std.specs.Prelude.{ℕ, zero, suc, ◌+◌, ◌<◌, ◌≡◌, Bool, true, ◌&&◌, if◌then◌else◌}
-use Rattle.std.specs.Prelude.{Option, None, Some, List, length, slice_index_or}
+-- The numbers below a number that pass a test.
+use Rattle.std.specs.Prelude.{ℕ, zero, suc, ◌+◌, Bool, true, ◌&&◌, if◌then◌else◌, Option, None, Some}
 use Rattle.std.specs.Option.{option_or}
 
 -- each number below n passes
@@ -17,7 +16,3 @@ count_below (suc n) test = count_below n test + (if test n then 1 else 0)
 abbrev pub least_below : ℕ → (ℕ → Bool) → Option ℕ
 least_below zero test = None
 least_below (suc n) test = option_or (least_below n test) (if test n then Some n else None)
-
--- the counts are those that the function gives
-abbrev pub Counts : List ℕ → (ℕ → ℕ) → Type 0
-Counts counts f = (i : ℕ) → i < length counts → slice_index_or counts i 0 ≡ f i

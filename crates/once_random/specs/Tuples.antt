@@ -1,7 +1,5 @@
 -- Tuples of probes, their roots and bounds, and when they are proved. A tuple is a list of probe numbers.
-use Rattle.std.specs.Prelude.{ℕ, Bool, false, not, List, [], ◌∷◌, ◌++◌, map, length, count_by, find, Option}
-use Rattle.std.specs.Prelude.{slice_index_or}
-use Rattle.std.specs.List.{range_with_len}
+use Rattle.std.specs.Prelude.{ℕ, Bool, false, not, List, [], ◌∷◌, ◌++◌, length, count_by, find, Option, slice_index_or}
 use Rattle.expr_table.specs.declared.instance.Instance.{Instance}
 use Rattle.expr_table.specs.declared.instance.Notion.{Notion}
 use Rattle.expr_table.specs.declared.instance.Notion.TheVariants.{Probing, Ni, Sni}
@@ -14,9 +12,13 @@ abbrev pub probe_at : List ProbeRoots → ℕ → ProbeRoots
 probe_at probes p = slice_index_or probes p (record { rows = []; output = false })
 
 -- the rows that the probes of the tuple see
+abbrev pub roots_over : List ProbeRoots → List ℕ → List ℕ
+roots_over probes [] = []
+roots_over probes (p ∷ ps) = rows_of (probe_at probes p) ++ roots_over probes ps
+
+-- the rows that those of an instance see
 abbrev pub roots_of : Instance → List ℕ → List ℕ
-roots_of x [] = []
-roots_of x (p ∷ ps) = rows_of (probe_at x.probes p) ++ roots_of x ps
+roots_of x tuple = roots_over x.probes tuple
 
 -- how many of the tuple's probes are no probes of an output share
 abbrev pub internal_probes : Instance → List ℕ → ℕ
@@ -36,10 +38,6 @@ bound_of x tuple = bound_of_notion x.notion x tuple
 -- the tuple's roots are provable within its bound
 unfoldable pub is_proved : Instance → List ℕ → Bool
 is_proved x tuple = is_provable x (roots_of x tuple) (bound_of x tuple)
-
--- the tuples of one probe, in order
-abbrev pub tuples_of_one : Instance → List (List ℕ)
-tuples_of_one x = map (λ p. p ∷ []) (range_with_len 0 (length x.probes))
 
 -- the first of the tuples that is not proved
 abbrev pub first_unproved : Instance → List (List ℕ) → Option (List ℕ)

@@ -1,14 +1,15 @@
 //! What a reader and the crates above may want to know of the definitions. Each law is a contract over all
 //! tables or instances; its body is empty.
-ghost use Rattle.std.specs.Prelude.{◌≡◌, ◌≤◌, ◌↔◌, ℕ, List, IsTrue};
+ghost use Rattle.std.specs.Prelude.{◌≡◌, ◌+◌, ◌<◌, ◌≤◌, ◌↔◌, ◌&&◌, ℕ, List, Option, All, IfSome, IsTrue, length};
 ghost use Rattle.expr_table.specs.declared.instance.Instance.{Instance};
 ghost use Rattle.expr_table.specs.declared.node.Node.{Node};
 ghost use Rattle.expr_table.specs.Instance.{IsFitting};
 ghost use Rattle.expr_table.specs.Table.{Table, IsTable};
 ghost use Rattle.once_random.specs.Cuts.{IsChain, IsSaturated, least_chain, may_be_cut};
-ghost use Rattle.once_random.specs.Groups.{is_within, live_leaves};
-ghost use Rattle.once_random.specs.Live.{AreAmong, AreRows, AreSameRows, IsLeastClosed, is_live};
-ghost use Rattle.once_random.specs.Provable.{IsProvable, is_provable};
+ghost use Rattle.once_random.specs.Groups.{are_within, is_in_group, is_within, live_leaves, live_leaves_of};
+ghost use Rattle.once_random.specs.Live.{AreAmong, AreLower, AreRows, AreSameRows, IsLeastClosed, is_live};
+ghost use Rattle.once_random.specs.Numbers.{count_below};
+ghost use Rattle.once_random.specs.Provable.{IsProvable, IsProvableOver, is_provable};
 ghost use Rattle.once_random.specs.Tuples.{bound_of, is_proved, roots_of};
 
 /// The live rows are the least set that holds the roots and both sides of each And or Xor that it holds
@@ -31,16 +32,18 @@ pub fn saturated_leaves_least()
         → (row : ℕ) → IsTrue (is_live table.nodes roots full row) → IsTrue (is_live table.nodes roots cuts row) }
 {}
 
-/// A chain after which no live row may be cut leaves live exactly what the least chain leaves live,
-/// whatever the order of its cuts. So it decides what is provable.
+/// Over any nodes whose sides are lower rows, a chain after which no live row may be cut leaves live exactly what
+/// the least chain leaves live, whatever the order of its cuts. So it decides what is provable.
 pub fn saturated_chain_decides()
-    ensures live { (table : Table) (roots cuts : List ℕ) → IsTable table → AreRows table.nodes roots
-        → IsChain table.nodes roots cuts → IsSaturated table.nodes roots cuts
-        → (row : ℕ)
-        → is_live table.nodes roots cuts row ≡ is_live table.nodes roots (least_chain table.nodes roots) row }
-    ensures provable { (x : Instance) (roots cuts : List ℕ) (m : ℕ) → IsTable x.table → AreRows x.table.nodes roots
-        → IsChain x.table.nodes roots cuts → IsSaturated x.table.nodes roots cuts
-        → is_within x roots cuts m ≡ is_provable x roots m }
+    ensures live { (nodes : List Node) (roots cuts : List ℕ) → AreLower nodes → AreRows nodes roots
+        → IsChain nodes roots cuts → IsSaturated nodes roots cuts
+        → (row : ℕ) → is_live nodes roots cuts row ≡ is_live nodes roots (least_chain nodes roots) row }
+    ensures within { (nodes : List Node) (groups : List (Option ℕ)) (roots cuts : List ℕ) (m : ℕ)
+        → AreLower nodes → AreRows nodes roots → IsChain nodes roots cuts → IsSaturated nodes roots cuts
+        → are_within nodes groups roots cuts m ≡ are_within nodes groups roots (least_chain nodes roots) m }
+    ensures provable { (nodes : List Node) (groups : List (Option ℕ)) (roots cuts : List ℕ) (m : ℕ)
+        → AreLower nodes → AreRows nodes roots → IsChain nodes roots cuts → IsSaturated nodes roots cuts
+        → IsTrue (are_within nodes groups roots cuts m) ↔ IsProvableOver nodes groups roots m }
 {}
 
 /// The least chain leaves the live leaves within a bound exactly where some chain does.
@@ -75,10 +78,23 @@ pub fn roots_are_a_set()
         → is_provable x roots m ≡ is_provable x others m }
 {}
 
-/// In a fitting instance the live leaves are within a bound exactly where every group has at most so many.
+/// Where entries are numbers of groups, live leaves are within a bound exactly where every group has at most
+/// so many; in a fitting instance they are.
 pub fn within_is_each_group()
-    ensures { (x : Instance) (roots cuts : List ℕ) (m : ℕ) → IsFitting x
+    ensures over { (nodes : List Node) (groups : List (Option ℕ)) (roots cuts : List ℕ) (m : ℕ)
+        → All (λ entry. IfSome entry (λ g. g < length groups)) groups
+        → IsTrue (are_within nodes groups roots cuts m)
+        ↔ ((group : ℕ) → live_leaves_of nodes groups roots cuts group ≤ m) }
+    ensures instance { (x : Instance) (roots cuts : List ℕ) (m : ℕ) → IsFitting x
         → IsTrue (is_within x roots cuts m) ↔ ((group : ℕ) → live_leaves x roots cuts group ≤ m) }
+{}
+
+/// In a fitting instance of a table, the live leaves of a group are counted by the numbers of its input leaves:
+/// input leaf i has row 2 + i.
+pub fn leaves_by_number()
+    ensures { (x : Instance) (roots cuts : List ℕ) (group : ℕ) → IsTable x.table → IsFitting x
+        → live_leaves x roots cuts group ≡ count_below x.table.inputs
+        (λ i. is_in_group x.groups group i && is_live x.table.nodes roots cuts (2 + i)) }
 {}
 
 /// The roots of a tuple are rows of the table, and those of some of its probes are among them.

@@ -1,4 +1,4 @@
-//! Deciding by randoms that are used once whether probes see too much.
+//! What it is that randoms which are used once decide whether probes see too much.
 //!
 //! A *tuple* of probes sees rows of an instance's table, its *roots*. A row is *live* where the roots
 //! read it. An Xor one of whose sides is a random that nothing else reads is as good as that random,
@@ -7,29 +7,14 @@
 //! allowed after those before it, and the *least chain* always cuts the live row of least number. Where
 //! it leaves few enough input leaves of each secret live, the tuple is *proved*.
 //!
-//! [`chain`] makes the least chain, [`leaves_within`] counts what some cuts leave live, and
-//! [`is_proved`] does both. Tuples are sets of probes, as [`BitRow`]s. The calls work in a [`Scratch`],
-//! which is made once for an instance.
+//! The definitions stand in `specs/`, and here are their laws. The crates above make chains, decide and
+//! check by them.
 #![tactic(auto)]
 
-mod bounds;
-mod cutting;
-mod engine;
 mod laws;
-mod least_chain;
-mod leaves;
-mod live;
-mod next_cut;
-mod parents;
-mod roots;
-mod scratch;
 
-pub use bounds::bound;
-pub use engine::{chain, is_proved, leaves_within};
-pub use expr_table::NoMemory;
 pub use laws::{
-    least_chain_decides, least_chain_is_full, live_is_least, proved_is_provable, roots_are_a_set,
-    saturated_chain_decides, saturated_leaves_least, subset_keeps_chain, tuples_have_roots,
-    within_is_each_group,
+    least_chain_decides, least_chain_is_full, leaves_by_number, live_is_least, proved_is_provable,
+    roots_are_a_set, saturated_chain_decides, saturated_leaves_least, subset_keeps_chain,
+    tuples_have_roots, within_is_each_group,
 };
-pub use scratch::Scratch;

@@ -7,7 +7,7 @@ use Rattle.std.proofs.lemmas.List.Elements.{All-append, All-nil, All-cons, All-h
 use mathlib.Core.Option.{some, some-injective, some-ne-none}
 use lib.ListN.{get_elem?}
 use Rattle.open_count.specs.Views.{no_rank}
-use Rattle.open_count.specs.Rule.{least_rank}
+use Rattle.open_count.specs.Rule.{least_word}
 
 -- all of two lists put together
 All_parts : {X : Type 0} (P : X → Type 0) (xs ys : List X) → All P (xs ++ ys) → All P xs × All P ys
@@ -82,31 +82,31 @@ module _ {A : Type 0} where
         (λ h. ⊎_elim (λ t. inl (Contains-append_right (f x) (flat_map f xs) b t)) inr (Contains-cases b xs i w h))
         (Contains-append_cases (f x) (flat_map f (set xs i w)) b has)
 
-least_bound : (xs : List ℕ) → least_rank xs ≤ no_rank
+least_bound : (xs : List ℕ) → least_word xs ≤ no_rank
 least_bound [] = omega arith
 least_bound (x ∷ xs) = omega (arith, least_bound xs)
 
-least-append : (xs ys : List ℕ) → least_rank (xs ++ ys) ≡ min (least_rank xs) (least_rank ys)
+least-append : (xs ys : List ℕ) → least_word (xs ++ ys) ≡ min (least_word xs) (least_word ys)
 least-append [] ys = omega (arith, least_bound ys)
 least-append (x ∷ xs) ys = omega (arith, least-append xs ys)
 
-pub least-below : (xs : List ℕ) → All (λ r. least_rank xs ≤ r) xs
+pub least-below : (xs : List ℕ) → All (λ r. least_word xs ≤ r) xs
 least-below [] = All-nil (λ r. no_rank ≤ r)
-least-below (x ∷ xs) = All-cons (λ r. least_rank (x ∷ xs) ≤ r) x xs (omega arith) (All-weaker (λ r. least_rank xs ≤ r) (λ r. least_rank (x ∷ xs) ≤ r) (λ r h. omega arith) xs (least-below xs))
+least-below (x ∷ xs) = All-cons (λ r. least_word (x ∷ xs) ≤ r) x xs (omega arith) (All-weaker (λ r. least_word xs ≤ r) (λ r. least_word (x ∷ xs) ≤ r) (λ r h. omega arith) xs (least-below xs))
 
 -- the least is one of the ranks, where there are any
-pub least-is : (xs : List ℕ) → (least_rank xs ≡ no_rank) ⊎ Contains xs (least_rank xs)
+pub least-is : (xs : List ℕ) → (least_word xs ≡ no_rank) ⊎ Contains xs (least_word xs)
 least-is [] = inl refl
 least-is (x ∷ xs) = ⊎_elim
-    (λ (less : least_rank xs < x).
-    let is : min x (least_rank xs) ≡ least_rank xs = omega arith in
-    ⊎_elim (λ none. inl (is ∙ none)) (λ some. inr (subst (Contains (x ∷ xs)) (sym is) (Contains-append_right (x ∷ []) xs (least_rank xs) some))) (least-is xs))
-    (λ (more : x ≤ least_rank xs). let is : min x (least_rank xs) ≡ x = omega arith in inr (subst (Contains (x ∷ xs)) (sym is) (Contains-append_left (x ∷ []) xs x (Contains-push [] x))))
-    (cases_lt (least_rank xs) x)
+    (λ (less : least_word xs < x).
+    let is : min x (least_word xs) ≡ least_word xs = omega arith in
+    ⊎_elim (λ none. inl (is ∙ none)) (λ some. inr (subst (Contains (x ∷ xs)) (sym is) (Contains-append_right (x ∷ []) xs (least_word xs) some))) (least-is xs))
+    (λ (more : x ≤ least_word xs). let is : min x (least_word xs) ≡ x = omega arith in inr (subst (Contains (x ∷ xs)) (sym is) (Contains-append_left (x ∷ []) xs x (Contains-push [] x))))
+    (cases_lt (least_word xs) x)
 
 -- where one list gained a rank, the least of all falls to it at most
 pub least-changed : {A : Type 0} (f : A → List ℕ) (l : List A) (i r : ℕ) (v w : A) → get_elem? l i ≡ some v → f w ≡ f v ++ r ∷ [] → r < 2 ^ 62
-    → least_rank (flat_map f (set l i w)) ≡ min (least_rank (flat_map f l)) r
+    → least_word (flat_map f (set l i w)) ≡ min (least_word (flat_map f l)) r
 least-changed f [] i r v w at is small = absurd (some-ne-none v (sym at))
 least-changed f (x ∷ xs) zero r v w at is small =
     let here : f w ≡ f x ++ r ∷ [] = is ∙ ap (λ y. f y ++ r ∷ []) (sym (some-injective x v at)) in

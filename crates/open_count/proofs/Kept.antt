@@ -12,7 +12,7 @@ use Rattle.atomic_table.specs.Table.{Me, step, keeps, Allows, Splits as SplitsSe
 use Rattle.open_count.specs.declared.rule.Setup.{Setup}
 use Rattle.open_count.specs.declared.view.CountView.{CountView}
 use Rattle.open_count.specs.Views.{newcomer, no_rank, stop_entry, after_another, after_split, after_close, after_open_now, after_fail, after_best, after_stop, after_stopped}
-use Rattle.open_count.specs.Rule.{all_splits, all_closes, all_children, all_spare, failed_ranks, loaded_bests, loaded_stops, least_rank, ObeysRule, IsKept}
+use Rattle.open_count.specs.Rule.{all_splits, all_closes, all_children, all_spare, all_failed, loaded_bests, loaded_stops, least_word, ObeysRule, IsKept}
 use Rattle.open_count.specs.Steps.{IsNextBest, IsNextStop, Splits, Closes, LoadsOpen, Fails, LoadsBest, Stops, LoadsStop}
 use Rattle.open_count.proofs.Changed.{sum_by-changed, list_any-same, list_any-here, list_any-changed, flat_map-same, All-changed, All-of, Contains-of, Contains-changed, Contains-cases, least-below, least-is, least-changed}
 
@@ -27,7 +27,7 @@ set_bit false = refl
 -- a newcomer changes nothing but how many seats there are
 newcomer_keeps : (roots before after o b s : ℕ) (views : List CountView) → after ≡ before + 1 → ObeysRule roots before o b s views → ObeysRule roots after o b s (views ++ newcomer ∷ [])
 newcomer_keeps roots before after o b s views more rule =
-    let failed : failed_ranks (views ++ newcomer ∷ []) ≡ failed_ranks views = flat_map-append (λ x. x.failed) views (newcomer ∷ []) ∙ append-nil (failed_ranks views) in
+    let failed : all_failed (views ++ newcomer ∷ []) ≡ all_failed views = flat_map-append (λ x. x.failed) views (newcomer ∷ []) ∙ append-nil (all_failed views) in
     let loaded : loaded_bests (views ++ newcomer ∷ []) ≡ loaded_bests views = flat_map-append (λ x. x.bests_seen) views (newcomer ∷ []) ∙ append-nil (loaded_bests views) in
     let stops : loaded_stops (views ++ newcomer ∷ []) ≡ loaded_stops views = flat_map-append (λ x. x.stops_seen) views (newcomer ∷ []) ∙ append-nil (loaded_stops views) in
     let x = sum_by-append (λ x. x.splits) views (newcomer ∷ []) in
@@ -128,7 +128,7 @@ module _ (roots workers o b s : ℕ) (views : List CountView) (rule : ObeysRule 
         counted = counted w refl refl refl;
         ranks = All-changed (λ x. x.failed) (λ r. r < 2 ^ 62) views id w rule.ranks (All-push (λ r. r < 2 ^ 62) v.failed rank mine small);
         best = ap (λ n. min n rank) rule.best ∙ sym best;
-        loaded = rw loaded (All-weaker (λ n. (n ≡ no_rank) ⊎ Contains (failed_ranks views) n) (λ n. (n ≡ no_rank) ⊎ Contains (failed_ranks (with w)) n)
+        loaded = rw loaded (All-weaker (λ n. (n ≡ no_rank) ⊎ Contains (all_failed views) n) (λ n. (n ≡ no_rank) ⊎ Contains (all_failed (with w)) n)
             (λ n. ⊎_elim inl (λ h. inr (Contains-changed (λ x. x.failed) n views id v w at (Contains-append_left v.failed (rank ∷ []) n) h))) (loaded_bests views) rule.loaded);
         lowered = rw loaded (All-weaker (λ n. b ≤ n) (λ n. min b rank ≤ n) (λ n h. omega arith) (loaded_bests views) rule.lowered);
         stop = rw stopped rule.stop;
@@ -141,9 +141,9 @@ module _ (roots workers o b s : ℕ) (views : List CountView) (rule : ObeysRule 
       let failed = flat_map-same (λ x. x.failed) views id v w at refl in
       let stops = flat_map-same (λ x. x.stops_seen) views id v w at refl in
       let stopped = list_any-same (λ x. x.stopped) views id v w at refl in
-      let P : ℕ → Type 0 = λ n. (n ≡ no_rank) ⊎ Contains (failed_ranks views) n in
+      let P : ℕ → Type 0 = λ n. (n ≡ no_rank) ⊎ Contains (all_failed views) n in
       let Q : ℕ → Type 0 = λ n. b ≤ n in
-      let here : P b = ⊎_elim (λ e. inl (rule.best ∙ e)) (λ h. inr (subst (Contains (failed_ranks views)) (sym rule.best) h)) (least-is (failed_ranks views)) in
+      let here : P b = ⊎_elim (λ e. inl (rule.best ∙ e)) (λ h. inr (subst (Contains (all_failed views)) (sym rule.best) h)) (least-is (all_failed views)) in
       record {
         seats = seats w refl;
         counted = counted w refl refl refl;
@@ -157,8 +157,8 @@ module _ (roots workers o b s : ℕ) (views : List CountView) (rule : ObeysRule 
 
   pub best_is_next : IsNextBest v b
   best_is_next = record {
-    rank = ⊎_elim (λ e. inl (rule.best ∙ e)) (λ h. inr (rw rule.best (All-contains (λ r. r < 2 ^ 62) (failed_ranks views) (least_rank (failed_ranks views)) rule.ranks h))) (least-is (failed_ranks views));
-    failed = rw rule.best (All-of (λ x. x.failed) (λ r. least_rank (failed_ranks views) ≤ r) views id v at (least-below (failed_ranks views)));
+    rank = ⊎_elim (λ e. inl (rule.best ∙ e)) (λ h. inr (rw rule.best (All-contains (λ r. r < 2 ^ 62) (all_failed views) (least_word (all_failed views)) rule.ranks h))) (least-is (all_failed views));
+    failed = rw rule.best (All-of (λ x. x.failed) (λ r. least_word (all_failed views) ≤ r) views id v at (least-below (all_failed views)));
     loaded = All-of (λ x. x.bests_seen) (λ n. b ≤ n) views id v at rule.lowered;
   }
 

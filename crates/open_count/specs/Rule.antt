@@ -7,13 +7,15 @@ use Rattle.open_count.specs.declared.rule.Setup.{Setup}
 use Rattle.open_count.specs.declared.view.CountView.{CountView}
 use Rattle.open_count.specs.Views.{no_rank, stop_entry}
 
--- the splits, the closes and the children that all seats counted
+-- the splits that all seats counted
 abbrev pub all_splits : List CountView → ℕ
 all_splits views = sum_by (λ v. v.splits) views
 
+-- the families that all seats closed
 abbrev pub all_closes : List CountView → ℕ
 all_closes views = sum_by (λ v. v.closes) views
 
+-- the children that all seats counted
 abbrev pub all_children : List CountView → ℕ
 all_children views = sum_by (λ v. v.children) views
 
@@ -22,8 +24,8 @@ abbrev pub all_spare : List CountView → ℕ
 all_spare views = sum_by (λ v. v.spare) views
 
 -- the ranks that any seat failed
-abbrev pub failed_ranks : List CountView → List ℕ
-failed_ranks views = flat_map (λ v. v.failed) views
+abbrev pub all_failed : List CountView → List ℕ
+all_failed views = flat_map (λ v. v.failed) views
 
 -- the best words that any seat loaded
 abbrev pub loaded_bests : List CountView → List ℕ
@@ -34,9 +36,9 @@ abbrev pub loaded_stops : List CountView → List ℕ
 loaded_stops views = flat_map (λ v. v.stops_seen) views
 
 -- the least of the ranks, and 2 ^ 64 - 1 where there are none
-abbrev pub least_rank : List ℕ → ℕ
-least_rank [] = no_rank
-least_rank (r ∷ rs) = min r (least_rank rs)
+abbrev pub least_word : List ℕ → ℕ
+least_word [] = no_rank
+least_word (r ∷ rs) = min r (least_word rs)
 
 -- the rule
 pub record ObeysRule (roots workers open_word best_word stop_word : ℕ) (views : List CountView) : Type 0 where
@@ -45,11 +47,11 @@ pub record ObeysRule (roots workers open_word best_word stop_word : ℕ) (views 
   -- modulo 2 ^ 64, the open word is the roots and all children that were counted, less all splits and closes
   pub counted : (open_word + (all_splits views + all_closes views)) % 2 ^ 64 ≡ (roots + all_children views) % 2 ^ 64
   -- a failed rank is no word that stands for none
-  pub ranks : All (λ r. r < 2 ^ 62) (failed_ranks views)
+  pub ranks : All (λ r. r < 2 ^ 62) (all_failed views)
   -- the best word is the least failed rank, or 2 ^ 64 - 1 for none
-  pub best : best_word ≡ least_rank (failed_ranks views)
+  pub best : best_word ≡ least_word (all_failed views)
   -- a best word that was loaded is none, or a rank that some seat failed
-  pub loaded : All (λ b. (b ≡ no_rank) ⊎ Contains (failed_ranks views) b) (loaded_bests views)
+  pub loaded : All (λ b. (b ≡ no_rank) ⊎ Contains (all_failed views) b) (loaded_bests views)
   -- it is never below the best word
   pub lowered : All (λ b. best_word ≤ b) (loaded_bests views)
   -- the stop word is 1 where some seat stopped, and else 0

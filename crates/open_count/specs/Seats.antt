@@ -13,9 +13,9 @@ abbrev pub roots_of : CountTable → ℕ
 roots_of t = t.table.shared.key.roots
 
 -- how many seats there are and may still be made
-abbrev pub workers_of : CountTable → ℕ
-workers_of t = t.table.shared.key.workers
+abbrev pub seats_of : CountTable → ℕ
+seats_of t = t.table.shared.key.workers
 
 -- the seat is one of the table's
-abbrev pub IsSeatOf : CountTable → CountSeat → Type 0
-IsSeatOf t s = s.seat.table_id ≡ t.table.shared.table_id
+abbrev pub IsCountSeatOf : CountTable → CountSeat → Type 0
+IsCountSeatOf t s = s.seat.table_id ≡ t.table.shared.table_id

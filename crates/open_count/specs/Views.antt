@@ -7,8 +7,8 @@ abbrev pub newcomer : CountView
 newcomer = record { spare = 0; splits = 0; children = 0; closes = 0; failed = []; opens_seen = []; bests_seen = []; stopped = false; stops_seen = [] }
 
 -- one that may still make so many seats
-abbrev pub first_seat : ℕ → CountView
-first_seat spare = record newcomer { spare = spare }
+abbrev pub newcomer_with : ℕ → CountView
+newcomer_with spare = record newcomer { spare = spare }
 
 -- a seat was made
 abbrev pub after_another : CountView → CountView

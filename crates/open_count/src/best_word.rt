@@ -2,7 +2,7 @@
 
 ghost use Rattle.std.specs.Prelude.{◌≡◌, ◌<◌, ◌≤◌, ◌^◌, All, IfSome};
 ghost use Rattle.open_count.specs.Views.{after_fail, after_best, best_entry};
-ghost use Rattle.open_count.specs.Seats.{view_of, IsSeatOf};
+ghost use Rattle.open_count.specs.Seats.{view_of, IsCountSeatOf};
 
 use crate::rule::{BestStep, FailStep};
 use crate::table::{CountSeat, CountTable};
@@ -14,9 +14,9 @@ const NONE: u64 = u64::MAX;
 impl CountTable {
     /// Lowers the best word to the rank, where it is not lower already.
     pub fn fail(&self, seat: &mut CountSeat, rank: u64)
-        requires seat { IsSeatOf self.now seat.old }
+        requires seat { IsCountSeatOf self.now seat.old }
         requires rank { rank < 2 ^ 62 }
-        ensures seat { IsSeatOf self.now seat.new }
+        ensures seat { IsCountSeatOf self.now seat.new }
         ensures view { view_of seat.new ≡ after_fail (view_of seat.old) rank }
     {
         let _found = self
@@ -27,8 +27,8 @@ impl CountTable {
 
     /// The least failed rank, or `None` where no rank failed. It is never above a rank that this seat failed or loaded.
     pub fn best(&self, seat: &mut CountSeat) -> Option<u64>
-        requires { IsSeatOf self.now seat.old }
-        ensures seat { IsSeatOf self.now seat.new }
+        requires { IsCountSeatOf self.now seat.old }
+        ensures seat { IsCountSeatOf self.now seat.new }
         ensures view { view_of seat.new ≡ after_best (view_of seat.old) (best_entry result) }
         ensures rank { IfSome result (λ r. r < 2 ^ 62) }
         ensures failed { All (λ r. best_entry result ≤ r) (view_of seat.old).failed }

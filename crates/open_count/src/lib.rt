@@ -20,8 +20,6 @@ mod open_word;
 mod rule;
 mod stop_word;
 mod table;
-#[cfg(test)]
-mod tests;
 mod view;
 
 pub use laws::views_give_words;

@@ -1,7 +1,7 @@
 //! The rule of the words as the table keeps it, and what each kind of step tells its seat.
 
 ghost use Rattle.std.specs.Prelude.{◌-◌};
-ghost use Rattle.open_count.specs.Views.{newcomer, first_seat, after_another};
+ghost use Rattle.open_count.specs.Views.{newcomer, newcomer_with, after_another};
 ghost use Rattle.open_count.specs.Rule.{IsKept};
 ghost use Rattle.open_count.specs.Steps.{Splits, Closes, LoadsOpen, Fails, LoadsBest, Stops, LoadsStop};
 
@@ -23,7 +23,7 @@ pub struct Words;
 impl TableRule<(), CountView, Setup> for Words {
     ghost holds = { IsKept };
 
-    ghost first = { λ setup. first_seat (setup.workers - 1) };
+    ghost first = { λ setup. newcomer_with (setup.workers - 1) };
 }
 
 /// Adds on the open word.

@@ -2,7 +2,7 @@
 
 ghost use Rattle.std.specs.Prelude.{◌≡◌, true, Contains, IsTrue};
 ghost use Rattle.open_count.specs.Views.{after_stop, after_stopped, stop_entry};
-ghost use Rattle.open_count.specs.Seats.{view_of, IsSeatOf};
+ghost use Rattle.open_count.specs.Seats.{view_of, IsCountSeatOf};
 
 use crate::rule::{StopStep, StoppedStep};
 use crate::table::{CountSeat, CountTable};
@@ -12,8 +12,8 @@ const STOP: usize = 2;
 impl CountTable {
     /// Tells all to stop.
     pub fn stop(&self, seat: &mut CountSeat)
-        requires { IsSeatOf self.now seat.old }
-        ensures seat { IsSeatOf self.now seat.new }
+        requires { IsCountSeatOf self.now seat.old }
+        ensures seat { IsCountSeatOf self.now seat.new }
         ensures view { view_of seat.new ≡ after_stop (view_of seat.old) }
     {
         let _found = self
@@ -24,8 +24,8 @@ impl CountTable {
 
     /// Whether all are to stop: true wherever this seat stopped or was told so before.
     pub fn stopped(&self, seat: &mut CountSeat) -> bool
-        requires { IsSeatOf self.now seat.old }
-        ensures seat { IsSeatOf self.now seat.new }
+        requires { IsCountSeatOf self.now seat.old }
+        ensures seat { IsCountSeatOf self.now seat.new }
         ensures view { view_of seat.new ≡ after_stopped (view_of seat.old) (stop_entry result) }
         ensures stopped { IsTrue (view_of seat.old).stopped → IsTrue result }
         ensures loaded { Contains (view_of seat.old).stops_seen 1 → IsTrue result }

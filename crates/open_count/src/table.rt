@@ -22,8 +22,8 @@ pub struct CountSeat {
 }
 
 impl CountTable {
-    ghost use Rattle.open_count.specs.Views.{newcomer, first_seat, after_another};
-    ghost use Rattle.open_count.specs.Seats.{view_of, roots_of, workers_of, IsSeatOf};
+    ghost use Rattle.open_count.specs.Views.{newcomer, newcomer_with, after_another};
+    ghost use Rattle.open_count.specs.Seats.{view_of, roots_of, seats_of, IsCountSeatOf};
 
     /// The words of so many workers, with a seat for each of them: these are all the seats that there are. The open
     /// word begins at `roots`, the best word at its greatest value, which stands for none, and the stop word at 0.
@@ -34,9 +34,9 @@ impl CountTable {
     ) -> Result<(CountTable, Vec<CountSeat>), NoMemory>
         requires { 0 < workers }
         ensures roots { IfOk result (λ made. roots_of made.0 ≡ roots) }
-        ensures workers { IfOk result (λ made. workers_of made.0 ≡ workers) }
+        ensures workers { IfOk result (λ made. seats_of made.0 ≡ workers) }
         ensures count { IfOk result (λ made. vec_len made.1 ≡ workers) }
-        ensures seats { IfOk result (λ made. All (IsSeatOf made.0) made.1.items) }
+        ensures seats { IfOk result (λ made. All (IsCountSeatOf made.0) made.1.items) }
         ensures views { IfOk result (λ made. All (λ s. view_of s ≡ newcomer) made.1.items) }
     {
         let (table, mut first) = CountTable::with_one_seat(alloc, workers, roots)?;
@@ -55,9 +55,9 @@ impl CountTable {
     ) -> Result<(CountTable, CountSeat), NoMemory>
         requires { 0 < workers }
         ensures roots { IfOk result (λ made. roots_of made.0 ≡ roots) }
-        ensures workers { IfOk result (λ made. workers_of made.0 ≡ workers) }
-        ensures seat { IfOk result (λ made. IsSeatOf made.0 made.1) }
-        ensures view { IfOk result (λ made. view_of made.1 ≡ first_seat (workers - 1)) }
+        ensures workers { IfOk result (λ made. seats_of made.0 ≡ workers) }
+        ensures seat { IfOk result (λ made. IsCountSeatOf made.0 made.1) }
+        ensures view { IfOk result (λ made. view_of made.1 ≡ newcomer_with (workers - 1)) }
     {
         let (table, seat) = Table::of_words(
             alloc,
@@ -68,11 +68,11 @@ impl CountTable {
     }
 
     fn another(&self, seat: &mut CountSeat) -> CountSeat
-        requires seat { IsSeatOf self.now seat.old }
+        requires seat { IsCountSeatOf self.now seat.old }
         requires spare { 0 < (view_of seat.old).spare }
-        ensures seat { IsSeatOf self.now seat.new }
+        ensures seat { IsCountSeatOf self.now seat.new }
         ensures view { view_of seat.new ≡ after_another (view_of seat.old) }
-        ensures new_seat { IsSeatOf self.now result }
+        ensures new_seat { IsCountSeatOf self.now result }
         ensures new_view { view_of result ≡ newcomer }
     {
         CountSeat {

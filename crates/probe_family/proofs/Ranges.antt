@@ -5,7 +5,7 @@ use Rattle.std.proofs.lemmas.Bool.{and_parts, and_from, lt-ltb, ltb-true}
 use Rattle.std.specs.List.{list_all, flat_map, range_with_len, AllByRecursion}
 use Rattle.tuple_rank.specs.Choices.{choices}
 use Rattle.tuple_rank.proofs.Choosing.{choices-zero, choices-none, choices-more}
-use Rattle.tuple_rank.proofs.Order.{IsWithin, within-lower}
+use Rattle.tuple_rank.proofs.Order.{IsBetween, within-lower}
 use Rattle.bit_rows.specs.Sets.{is_in}
 use Rattle.probe_family.specs.Families.{is_ascending, count_in}
 use Rattle.probe_family.proofs.Bits.{count_cons}
@@ -14,17 +14,17 @@ use Rattle.probe_family.proofs.Members.{count_from, count_from_step}
 pub choices-range : (k c m : ℕ) → choices (suc k) (range_with_len c (suc m)) ≡ map (λ t. c ∷ t) (choices k (range_with_len (suc c) m)) ++ choices (suc k) (range_with_len (suc c) m)
 choices-range k c m = choices-more k c (range_with_len (c + 1) m) ∙ ap (λ d. map (λ t. c ∷ t) (choices k (range_with_len d m)) ++ choices (suc k) (range_with_len d m)) (add-one c)
 
-all_above : (b c end : ℕ) (t : List ℕ) → b < c → IsWithin c end t → list_all (nat_lt b) t ≡ true
+all_above : (b c end : ℕ) (t : List ℕ) → b < c → IsBetween c end t → list_all (nat_lt b) t ≡ true
 all_above b c end [] lt within = refl
 all_above b c end (p ∷ t) lt within = and_from (nat_lt b p) _ (lt-ltb b p (omega (arith, within.0))) (all_above b (p + 1) end t (omega (arith, within.0)) within.2)
 
 -- what ascends within bounds ascends
-pub ascending-within : (c end : ℕ) (t : List ℕ) → IsWithin c end t → is_ascending t ≡ true
+pub ascending-within : (c end : ℕ) (t : List ℕ) → IsBetween c end t → is_ascending t ≡ true
 ascending-within c end [] within = refl
 ascending-within c end (p ∷ t) within = and_from (list_all (nat_lt p) t) _ (all_above p (p + 1) end t (omega arith) within.2) (ascending-within (p + 1) end t within.2)
 
 -- what ascends and meets the bounds ascends within them
-pub within-ascending : (c end : ℕ) (t : List ℕ) → is_ascending t ≡ true → AllByRecursion (λ p. c ≤ p) t → AllByRecursion (λ p. p < end) t → IsWithin c end t
+pub within-ascending : (c end : ℕ) (t : List ℕ) → is_ascending t ≡ true → AllByRecursion (λ p. c ≤ p) t → AllByRecursion (λ p. p < end) t → IsBetween c end t
 within-ascending c end [] up from below = tt
 within-ascending c end (p ∷ t) up from below =
     let split = and_parts (list_all (nat_lt p) t) (is_ascending t) up in
@@ -48,7 +48,7 @@ weaken_All P Q gives (x ∷ xs) all = (gives x all.0, weaken_All P Q gives xs al
 
 -- what is chosen from a range ascends within it, and is as long as was asked for
 pub record IsChosen (c end k : ℕ) (t : List ℕ) : Type 0 where
-  pub within : IsWithin c end t
+  pub within : IsBetween c end t
   pub size : length t ≡ k
 
 pub choices_are_chosen : (k c m end : ℕ) → c + m ≡ end → AllByRecursion (IsChosen c end k) (choices k (range_with_len c m))
@@ -65,7 +65,7 @@ choices_are_chosen (suc k) c (suc m) end is =
     (choices (suc k) (range_with_len (c + 1) m)) (choices_are_chosen (suc k) (c + 1) m end (omega arith))))
 
 -- a set has no fewer numbers than an ascending list has of it
-pub count_in_fits : (set : List Bool) (c end : ℕ) (t : List ℕ) → IsWithin c end t → count_in set t ≤ count_from set c
+pub count_in_fits : (set : List Bool) (c end : ℕ) (t : List ℕ) → IsBetween c end t → count_in set t ≤ count_from set c
 count_in_fits set c end [] within = omega arith
 count_in_fits set c end (p ∷ t) within =
     let rest = count_in_fits set (p + 1) end t within.2 in

@@ -13,7 +13,7 @@ use Rattle.once_random.specs.Tuples.{bound_of_notion, bound_of, probe_at, intern
 use Rattle.bit_rows.specs.Sets.{is_in, minus}
 use Rattle.bit_rows.proofs.Facts.{is_in-below, is_in-minus, length-set_of, same_sets}
 use Rattle.tuple_rank.specs.Tuples.{IsTuple}
-use Rattle.tuple_rank.proofs.Order.{IsWithin, within-below, tuple-within}
+use Rattle.tuple_rank.proofs.Order.{IsBetween, within-below, tuple-within}
 use Rattle.probe_family.specs.declared.part.Part.{Part}
 use Rattle.probe_family.specs.declared.family.Family.{Family}
 use Rattle.probe_family.specs.Families.{count_in, is_taken_from, is_in_part, are_taken, is_tuple_over, is_tuple_of, total_take, part_of, family_over, IsFamily}
@@ -118,12 +118,12 @@ module _ (x : Instance) where
       ∙ ap (λ s. record { all = all_set x; internal = internal_set x; output = s }) output_is)
 
   module _ (t : List ℕ) where
-    count_all : (c : ℕ) (t : List ℕ) → IsWithin c n t → count_in (all_set x) t ≡ length t
+    count_all : (c : ℕ) (t : List ℕ) → IsBetween c n t → count_in (all_set x) t ≡ length t
     count_all c [] within = refl
     count_all c (p ∷ t) within =
         count_cons (is_in (all_set x)) p t ∙ (ap (λ b. one_if b + count_in (all_set x) t) (in_all p within.1) ∙ (let rest = count_all (p + 1) t within.2 in omega arith))
 
-    count_both : (c : ℕ) (t : List ℕ) → IsWithin c n t → count_in (internal_set x) t + count_in (output_set x) t ≡ length t
+    count_both : (c : ℕ) (t : List ℕ) → IsBetween c n t → count_in (internal_set x) t + count_in (output_set x) t ≡ length t
     count_both c [] within = refl
     count_both c (p ∷ t) within =
         let rest = count_both (p + 1) t within.2 in
@@ -135,7 +135,7 @@ module _ (x : Instance) where
         by_case true i i' o o' l e f g = omega arith
         by_case false i i' o o' l e f g = omega arith
 
-    all_in : (parts : List Part) → ((p : ℕ) → p < n → is_in_part parts p ≡ true) → (c : ℕ) (t : List ℕ) → IsWithin c n t → list_all (is_in_part parts) t ≡ true
+    all_in : (parts : List Part) → ((p : ℕ) → p < n → is_in_part parts p ≡ true) → (c : ℕ) (t : List ℕ) → IsBetween c n t → list_all (is_in_part parts) t ≡ true
     all_in parts each c [] within = refl
     all_in parts each c (p ∷ t) within = and_from (is_in_part parts p) (list_all (is_in_part parts) t) (each p within.1) (all_in parts each (p + 1) t within.2)
 
@@ -148,7 +148,7 @@ module _ (x : Instance) where
         by_case true = refl
         by_case false = refl
 
-    module _ (within : IsWithin 0 n t) where
+    module _ (within : IsBetween 0 n t) where
       over_whole : (k : ℕ) → is_tuple_over (whole k) t ≡ (length t == k && true)
       unfolding is_tuple_over
       over_whole k =

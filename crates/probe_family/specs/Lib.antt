@@ -2,3 +2,4 @@ pub mod Families
 pub mod Choices
 pub mod Least
 pub mod Roots
+pub mod Often

@@ -90,6 +90,3 @@ fn add_least(part: &Part, tuple: &mut Tuple)
         next = part.set.next(p);
     }
 }
-
-#[cfg(test)]
-mod tests;

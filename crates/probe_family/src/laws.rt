@@ -25,6 +25,11 @@ pub fn roots_are_families()
     ensures { (x : Instance) (t : ℕ) → t ≤ 8 → All (IsFamily (length x.probes)) (roots_of x t) }
 {}
 
+/// The tuples of a root have at most `t` probes.
+pub fn roots_are_small()
+    ensures { (x : Instance) (t : ℕ) → All (λ (root : Family). root.size ≤ t) (roots_of x t) }
+{}
+
 /// A family's tuples have its size and are ascending lists of numbers below n.
 pub fn family_has_tuples()
     ensures tuple { (n t : ℕ) (family : Family) (tuple : List ℕ) → IsFamily n family → family.size ≤ t

@@ -19,7 +19,7 @@ pub use choice::{Choice, add_family_over};
 pub use ending::{Closed, Ended, Ending};
 pub use family::Family;
 pub use laws::{
-    each_tuple_in_one_root, family_has_tuples, least_is_first, roots_are_families,
+    each_tuple_in_one_root, family_has_tuples, least_is_first, roots_are_families, roots_are_small,
     weight_counts_tuples,
 };
 pub use part::{Part, Parts};

@@ -74,6 +74,3 @@ pub fn roots(alloc: Global, instance: &Instance, order: u32) -> Result<Vec<Famil
     }
     Ok(roots)
 }
-
-#[cfg(test)]
-mod tests;

@@ -1,4 +1,3 @@
-pub mod Decides
 pub mod Tables
 pub mod Waiting
 pub mod Turns

@@ -5,18 +5,18 @@ use Rattle.expr_table.specs.declared.node.Node.{Node}
 use Rattle.expr_table.specs.declared.node.Node.TheVariants as node
 use Rattle.expr_table.specs.declared.node.Row.{Row}
 use Rattle.expr_table.specs.Table.{node_at, has}
-use Rattle.once_random.specs.Cutting.{live_parents}
-use Rattle.once_random.specs.Live.{is_live_parent, AreAmong, AreRows}
-use Rattle.once_random.proofs.Facts.{IsEarlier, live-side}
+use Rattle.once_random.specs.Cuts.{is_xor}
+use Rattle.once_random.specs.Live.{AreLower, is_live_parent, AreAmong, AreRows, live_parents}
+use Rattle.once_random.proofs.Facts.{live-side}
 use Rattle.live_rows.specs.declared.mark.Mark.{Mark}
 use Rattle.live_rows.specs.Marks.{mark_at, queued_count, is_spare}
 use Rattle.live_rows.specs.Shown.{Shows, live_count, serves}
 use Rattle.live_rows.specs.State.{State}
 use Rattle.live_rows.proofs.Facts.{roots_within, taken-has, taken-length}
-use Rattle.sim_rules.specs.Cutting.{is_xor, IsCutting, IsCutDown}
+use Rattle.sim_rules.specs.Cutting.{IsServing, IsCutDown}
 use Rattle.sim_rules.proofs.Waiting.{parent_parts, taken_idle, taken_other, taken_cut, serves_allowed, waiting_begun, none_waits}
 
-module _ (nodes : List Node) (lower : IsEarlier nodes) (roots : List ℕ) (limit : ℕ) (state : State) (row : ℕ) (steps : ℕ) (before : IsCutting nodes roots limit state (row ∷ state.alone) steps) where
+module _ (nodes : List Node) (lower : AreLower nodes) (roots : List ℕ) (limit : ℕ) (state : State) (row : ℕ) (steps : ℕ) (before : IsServing nodes roots limit state (row ∷ state.alone) steps) where
   within : AreRows nodes roots
   within = roots_within nodes roots before.cuts state.marks before.shows
 
@@ -24,7 +24,7 @@ module _ (nodes : List Node) (lower : IsEarlier nodes) (roots : List ℕ) (limit
   taken q = refl
 
   -- no row alone reads it
-  pub idle_turn : (live_parents nodes roots before.cuts row ≡ 1 → ⊥) → IsCutting nodes roots limit state state.alone steps
+  pub idle_turn : (live_parents nodes roots before.cuts row ≡ 1 → ⊥) → IsServing nodes roots limit state state.alone steps
   idle_turn idle = record {
     cuts = before.cuts;
     chain = before.chain;
@@ -36,7 +36,7 @@ module _ (nodes : List Node) (lower : IsEarlier nodes) (roots : List ℕ) (limit
 
   -- the row that alone reads it is no Xor
   pub other_turn : (p after : ℕ) → is_live_parent nodes roots before.cuts row p ≡ true → is_xor (node_at nodes p) ≡ false → after ≡ steps + 1
-      → IsCutting nodes roots limit state state.alone after
+      → IsServing nodes roots limit state state.alone after
   other_turn p after only other looked = record {
     cuts = before.cuts;
     chain = before.chain;
@@ -69,7 +69,7 @@ module _ (nodes : List Node) (lower : IsEarlier nodes) (roots : List ℕ) (limit
       → ((q : ℕ) → serves nodes roots (p ∷ before.cuts) q ≡ true → (serves nodes roots before.cuts q ≡ true) ⊎ (has new.alone q ≡ true))
       → queued_count new.marks + length state.alone ≡ queued_count state.marks + length new.alone → queued_count new.marks ≤ length new.found
       → after + live_count nodes roots (p ∷ before.cuts) ≤ looked + live_count nodes roots before.cuts
-      → IsCutting nodes roots limit new new.alone after
+      → IsServing nodes roots limit new new.alone after
   cut_turn p a b new looked after is only served look shows among gains queued few cost = record {
     cuts = p ∷ before.cuts;
     chain = (serves_allowed nodes lower roots within before.cuts row p a b is only served, before.chain);
@@ -90,7 +90,7 @@ not_xor (node.Xor a b) none = absurd (none a b refl)
 
 -- the row at the end of a list may stand at its head
 pub turned : (nodes : List Node) (roots : List ℕ) (limit : ℕ) (old new : State) (row steps : ℕ) → new.marks ≡ old.marks → new.found ≡ old.found → old.alone ≡ new.alone ++ row ∷ []
-    → IsCutting nodes roots limit old old.alone steps → IsCutting nodes roots limit new (row ∷ new.alone) steps
+    → IsServing nodes roots limit old old.alone steps → IsServing nodes roots limit new (row ∷ new.alone) steps
 turned nodes roots limit old new row steps marks found alone before =
     let len = taken-length old.alone new.alone row alone in
     let queued : queued_count new.marks ≡ queued_count old.marks = ap queued_count marks in
@@ -105,9 +105,9 @@ turned nodes roots limit old new row steps marks found alone before =
     }
 
 -- before any cut
-pub begun : (nodes : List Node) → IsEarlier nodes → (roots : List ℕ) (state : State) (steps : ℕ) → Shows nodes roots [] state.marks
+pub begun : (nodes : List Node) → AreLower nodes → (roots : List ℕ) (state : State) (steps : ℕ) → Shows nodes roots [] state.marks
     → ((row : ℕ) → serves nodes roots [] row ≡ true → has state.alone row ≡ true) → queued_count state.marks ≡ length state.alone → queued_count state.marks ≤ length state.found
-    → IsCutting nodes roots (steps + live_count nodes roots []) state state.alone steps
+    → IsServing nodes roots (steps + live_count nodes roots []) state state.alone steps
 begun nodes lower roots state steps shows each queued few = record {
   cuts = [];
   chain = tt;
@@ -118,8 +118,8 @@ begun nodes lower roots state steps shows each queued few = record {
 }
 
 -- where none waits, the cuts are done
-pub done : (nodes : List Node) → IsEarlier nodes → (roots : List ℕ) (limit : ℕ) (old new : State) (steps : ℕ) → new.marks ≡ old.marks → old.alone ≡ []
-    → IsCutting nodes roots limit old old.alone steps → IsCutDown nodes roots new
+pub done : (nodes : List Node) → AreLower nodes → (roots : List ℕ) (limit : ℕ) (old new : State) (steps : ℕ) → new.marks ≡ old.marks → old.alone ≡ []
+    → IsServing nodes roots limit old old.alone steps → IsCutDown nodes roots new
 done nodes lower roots limit old new steps marks none is = record {
   cuts = is.cuts;
   chain = is.chain;

@@ -5,16 +5,15 @@ use Rattle.expr_table.specs.declared.node.Node.{Node}
 use Rattle.expr_table.specs.declared.node.Node.TheVariants as node
 use Rattle.expr_table.specs.declared.node.Row.{Row}
 use Rattle.expr_table.specs.Table.{node_at, sides, has}
-use Rattle.once_random.specs.Cutting.{live_parents}
-use Rattle.once_random.specs.Cuts.{is_fresh, has_no_parent_but, masks, is_masked, is_allowed, may_be_cut, IsSaturated}
-use Rattle.once_random.specs.Live.{is_live, is_live_parent, AreRows}
+use Rattle.once_random.specs.Cuts.{is_xor, is_fresh, has_no_parent_but, masks, is_masked, is_allowed, may_be_cut, IsSaturated}
+use Rattle.once_random.specs.Live.{AreLower, is_live, is_live_parent, AreRows, live_parents}
 use Rattle.once_random.proofs.Alone.{alone}
-use Rattle.once_random.proofs.Facts.{IsEarlier, all_below-at, has_left, has_right, live-below}
+use Rattle.once_random.proofs.Facts.{all_below-at, has_left, has_right, live-below}
 use Rattle.live_rows.specs.Shown.{serves}
 use Rattle.live_rows.proofs.Facts.{live_parent-fewer}
-use Rattle.sim_rules.specs.Cutting.{is_xor, AreWaiting}
+use Rattle.sim_rules.specs.Cutting.{MaskersWait}
 
-module _ (nodes : List Node) (lower : IsEarlier nodes) (roots : List ℕ) (within : AreRows nodes roots) where
+module _ (nodes : List Node) (lower : AreLower nodes) (roots : List ℕ) (within : AreRows nodes roots) where
   -- what a live parent is
   pub parent_parts : (cuts : List ℕ) (side e : ℕ) → is_live_parent nodes roots cuts side e ≡ true
       → (is_live nodes roots cuts e ≡ true) × (has cuts e ≡ false) × (has (sides (node_at nodes e)) side ≡ true)
@@ -54,11 +53,11 @@ module _ (nodes : List Node) (lower : IsEarlier nodes) (roots : List ℕ) (withi
       (or_cases (p == e) (not (is_live_parent nodes roots cuts side p)) (all_below-at (length nodes) (λ p. p == e || not (is_live_parent nodes roots cuts side p)) rest.1 p lt))
 
   -- where all that serve wait, each that masks an Xor waits
-  pub waiting_begun : (cuts rows : List ℕ) → ((row : ℕ) → serves nodes roots cuts row ≡ true → has rows row ≡ true) → AreWaiting nodes roots cuts rows
+  pub waiting_begun : (cuts rows : List ℕ) → ((row : ℕ) → serves nodes roots cuts row ≡ true → has rows row ≡ true) → MaskersWait nodes roots cuts rows
   waiting_begun cuts rows each side e parent h xor = each side (sym (masks_serves cuts side e parent) ∙ h)
 
   -- where none waits, no live row may be cut
-  pub none_waits : (cuts rows : List ℕ) → rows ≡ [] → AreWaiting nodes roots cuts rows → IsSaturated nodes roots cuts
+  pub none_waits : (cuts rows : List ℕ) → rows ≡ [] → MaskersWait nodes roots cuts rows → IsSaturated nodes roots cuts
   none_waits cuts rows none waiting e = ⊎_elim (λ h. absurd (some (node_at nodes e) refl h)) (λ f. f) (cases_Bool (may_be_cut nodes roots cuts e))
     where
       waits : (side : ℕ) → has rows side ≡ true → ⊥
@@ -100,12 +99,12 @@ module _ (nodes : List Node) (lower : IsEarlier nodes) (roots : List ℕ) (withi
       (or_cases (a.0 == side) (b.0 == side || false) (subst (λ n. has (sides n) side ≡ true) is parts.2))))
 
   -- a row was taken off the list
-  module _ (cuts old new : List ℕ) (row : ℕ) (taken : (q : ℕ) → has old q ≡ (row == q || has new q)) (waiting : AreWaiting nodes roots cuts old) where
+  module _ (cuts old new : List ℕ) (row : ℕ) (taken : (q : ℕ) → has old q ≡ (row == q || has new q)) (waiting : MaskersWait nodes roots cuts old) where
     still_waits : (side e : ℕ) → is_live_parent nodes roots cuts side e ≡ true → masks nodes roots cuts e side ≡ true → is_xor (node_at nodes e) ≡ true → (row ≡ side) ⊎ (has new side ≡ true)
     still_waits side e parent h xor = ⊎_elim (λ same. inl (eqb-true row side same)) inr (or_cases (row == side) (has new side) (sym (taken side) ∙ waiting side e parent h xor))
 
     -- its count of live parents is not 1
-    pub taken_idle : (live_parents nodes roots cuts row ≡ 1 → ⊥) → AreWaiting nodes roots cuts new
+    pub taken_idle : (live_parents nodes roots cuts row ≡ 1 → ⊥) → MaskersWait nodes roots cuts new
     taken_idle idle side e parent h xor =
         ⊎_elim
         (λ same.
@@ -118,7 +117,7 @@ module _ (nodes : List Node) (lower : IsEarlier nodes) (roots : List ℕ) (withi
         (still_waits side e parent h xor)
 
     -- its only live parent is no Xor
-    pub taken_other : (p : ℕ) → is_live_parent nodes roots cuts row p ≡ true → is_xor (node_at nodes p) ≡ false → AreWaiting nodes roots cuts new
+    pub taken_other : (p : ℕ) → is_live_parent nodes roots cuts row p ≡ true → is_xor (node_at nodes p) ≡ false → MaskersWait nodes roots cuts new
     taken_other p only other side e parent h xor =
         ⊎_elim
         (λ same.
@@ -133,7 +132,7 @@ module _ (nodes : List Node) (lower : IsEarlier nodes) (roots : List ℕ) (withi
     pub taken_cut : (p : ℕ) (after : List ℕ) → is_live_parent nodes roots cuts row p ≡ true → serves nodes roots cuts row ≡ true
         → ((q : ℕ) → has new q ≡ true → has after q ≡ true)
         → ((q : ℕ) → serves nodes roots (p ∷ cuts) q ≡ true → (serves nodes roots cuts q ≡ true) ⊎ (has after q ≡ true))
-        → AreWaiting nodes roots (p ∷ cuts) after
+        → MaskersWait nodes roots (p ∷ cuts) after
     taken_cut p after only served keeps gains side e parent h xor =
         let before = parent_before p cuts side e parent in
         ⊎_elim

@@ -1,3 +1,2 @@
-pub mod Provable
 pub mod Fitting
 pub mod Cutting

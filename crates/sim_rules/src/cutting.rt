@@ -2,11 +2,12 @@
 ghost use Rattle.std.specs.Prelude.{◌≡◌, ◌+◌, ◌*◌, ◌<◌, ◌≤◌, ◌∷◌, [], ℕ, List, All, IsTrue, length};
 ghost use Rattle.expr_table.specs.Instance.{rows_of};
 ghost use Rattle.bit_rows.specs.Sets.{members};
-ghost use Rattle.live_rows.specs.Leaves.{roots_over};
+ghost use Rattle.once_random.specs.Live.{AreLower};
+ghost use Rattle.once_random.specs.Tuples.{roots_over};
 ghost use Rattle.live_rows.specs.Marks.{is_spare, mark_at, queued_count};
-ghost use Rattle.live_rows.specs.Shown.{AreLower, live_count};
+ghost use Rattle.live_rows.specs.Shown.{live_count};
 ghost use Rattle.live_rows.specs.State.{IsClear};
-ghost use Rattle.sim_rules.specs.Cutting.{IsCutDown, IsCutting};
+ghost use Rattle.sim_rules.specs.Cutting.{IsCutDown, IsServing};
 
 use bit_rows::BitRow;
 use live_rows::{LiveRows, Looks, Node, ProbeRoots, Row, Steps};
@@ -16,12 +17,12 @@ use std::sync::ledger::Ledger;
 fn serve<S: Looks, L: Ledger>(live: &mut LiveRows, source: &S, row: Row, steps: &mut Steps<L>)
     requires lower { AreLower (S.nodes source.now) }
     requires cutting { (roots : List ℕ) × (limit : ℕ)
-        × IsCutting (S.nodes source.now) roots limit live.old (row.0 ∷ live.old.alone) steps.old }
+        × IsServing (S.nodes source.now) roots limit live.old (row.0 ∷ live.old.alone) steps.old }
     requires within { row.0 < length live.old.marks }
     requires spare { IsTrue (is_spare (mark_at live.old.marks row.0)) }
     ensures cutting { (roots : List ℕ) (limit : ℕ)
-        → IsCutting (S.nodes source.now) roots limit live.old (row.0 ∷ live.old.alone) steps.old
-        → IsCutting (S.nodes source.now) roots limit live.new live.new.alone steps.new }
+        → IsServing (S.nodes source.now) roots limit live.old (row.0 ∷ live.old.alone) steps.old
+        → IsServing (S.nodes source.now) roots limit live.new live.new.alone steps.new }
     ensures found { live.new.found ≡ live.old.found }
     ensures queued { queued_count live.new.marks + length live.old.alone
         ≡ queued_count live.old.marks + length live.new.alone }

@@ -1,16 +1,11 @@
 //! The decision.
 ghost use Rattle.std.specs.Prelude.{◌≡◌, ◌+◌, ◌*◌, ◌<◌, ◌≤◌, ◌↔◌, [], IsTrue, length};
 ghost use Rattle.expr_table.specs.Instance.{IsFitting};
-ghost use Rattle.once_random.specs.Provable.{is_provable};
-ghost use Rattle.once_random.specs.Tuples.{roots_of};
+ghost use Rattle.once_random.specs.Provable.{IsProvableOver, is_provable};
+ghost use Rattle.once_random.specs.Tuples.{roots_of, roots_over};
 ghost use Rattle.bit_rows.specs.Sets.{members};
-ghost use Rattle.live_rows.specs.Leaves.{roots_over};
 ghost use Rattle.live_rows.specs.Shown.{live_count};
 ghost use Rattle.sim_rules.specs.Fitting.{IsFittingOver};
-ghost use Rattle.sim_rules.specs.Provable.{IsProvableOver};
-
-#[cfg(test)]
-mod tests;
 
 use crate::cutting::cut_down;
 use crate::scratch::Scratch;

@@ -15,5 +15,5 @@ mod laws;
 mod scratch;
 
 pub use engine::{decide, decide_over};
-pub use laws::{saturated_chain_decides, tables_are_fitting, within_is_each_group};
+pub use laws::tables_are_fitting;
 pub use scratch::Scratch;

@@ -38,4 +38,13 @@ impl Scratch {
         let live = LiveRows::make(alloc, rows)?;
         Ok(Scratch { live })
     }
+
+    /// Threads may share work lists, and hand them to each other. This call does nothing; that it is there
+    /// shows it.
+    pub fn is_for_threads(&self) {
+        is_shared(self)
+    }
 }
+
+/// What threads may share, and hand to each other.
+fn is_shared<T: Send + Sync>(_: &T) {}

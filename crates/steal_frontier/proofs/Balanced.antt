@@ -6,7 +6,8 @@ use Rattle.std.proofs.lemmas.List.Sums.{sum_by-append, sum_by-set, sum_by_push}
 use Rattle.probe_family.specs.declared.family.Family.{Family}
 use Rattle.deque_reach.specs.Views.{ReachView, after_steal, after_pop}
 use Rattle.deque_reach.proofs.Weights.{sum_by-flat_map, All_parts}
-use Rattle.steal_frontier.specs.Views.{SeatView, Gave, IsSound, FitsSeat, roots_of, pushed_later, taken_of, waiting_of, families_of}
+use Rattle.probe_family.specs.Often.{families_of}
+use Rattle.steal_frontier.specs.Views.{SeatView, Gave, IsSound, FitsSeat, roots_of, pushed_later, taken_of, waiting_of}
 use Rattle.steal_frontier.specs.Tries.{others_of}
 use Rattle.steal_frontier.specs.Takes.{FromOther, Finds, FindsNothing}
 use Rattle.steal_frontier.specs.Takes.Finds.{on_stack, on_own_deque, on_another}

@@ -10,7 +10,8 @@ use Rattle.std.proofs.lemmas.List.Elements.{All-nil, All-get_or, All-head}
 use Rattle.probe_family.specs.declared.family.Family.{Family}
 use Rattle.deque_reach.specs.declared.deques.Deques.{Deques}
 use Rattle.deque_reach.specs.declared.reach.Reach.{Reach}
-use Rattle.deque_reach.specs.Fits.{AsOften, Fits}
+use Rattle.probe_family.specs.Often.{AsOften}
+use Rattle.deque_reach.specs.Fits.{Fits}
 use Rattle.deque_reach.specs.Views.{ReachView, new_view, new_views}
 use Rattle.deque_reach.specs.Reaches as Reaches
 use Rattle.deque_reach.specs.Reaches.{deques_of, IsReachOf, AreReachesOf}

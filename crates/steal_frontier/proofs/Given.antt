@@ -9,7 +9,8 @@ use Rattle.probe_family.specs.declared.family.Family.{Family}
 use Rattle.probe_family.specs.declared.ending.Ending.{Ending}
 use Rattle.probe_family.specs.declared.ending.Ended.{Ended}
 use Rattle.deque_reach.specs.Views.{ReachView, after_push, Refuses}
-use Rattle.steal_frontier.specs.Views.{SeatView, Gave, IsSound, FitsSeat, roots_of, families_of}
+use Rattle.probe_family.specs.Often.{families_of}
+use Rattle.steal_frontier.specs.Views.{SeatView, Gave, IsSound, FitsSeat, roots_of}
 use Rattle.steal_frontier.specs.Gives.{Gives, Offers}
 use Rattle.steal_frontier.proofs.Balanced.{weighs, gave}
 

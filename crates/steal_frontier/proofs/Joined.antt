@@ -9,13 +9,13 @@ use Rattle.probe_family.specs.declared.family.Family.{Family}
 use Rattle.probe_family.specs.declared.ending.Ended.{Ended}
 use Rattle.deque_reach.specs.declared.reach.Reach.{Reach}
 use Rattle.deque_reach.specs.Fits.{Fits}
-use Rattle.deque_reach.specs.Reaches as Reaches
 use Rattle.deque_reach.specs.Reaches.{IsReachOf, AreReachesOf, IsLeft, all_pushed_by, all_taken_by}
 use Rattle.deque_reach.proofs.Made.{map-composed}
 use Rattle.deque_reach.proofs.Weights.{All_one, nil_of}
 use Rattle.steal_frontier.specs.declared.frontier.Frontier.{Frontier}
 use Rattle.steal_frontier.specs.declared.seat.Seat.{Seat}
-use Rattle.steal_frontier.specs.Views.{SeatView, Gave, FitsSeat, roots_of, taken_of, waiting_of, families_of, pushed_later}
+use Rattle.probe_family.specs.Often.{families_of}
+use Rattle.steal_frontier.specs.Views.{SeatView, Gave, FitsSeat, roots_of, taken_of, waiting_of, pushed_later}
 use Rattle.steal_frontier.specs.Seats.{view_of, FitsFrontier, IsSeatOf, AreSeatsOf}
 use Rattle.steal_frontier.specs.Gathers.{all_ended, all_waiting, all_roots, Balances}
 

@@ -15,6 +15,7 @@ abbrev pub dealt_from : ℕ → ℕ → ℕ → List Family → List Family
 dealt_from k workers i [] = []
 dealt_from k workers i (f ∷ fs) = if k % workers == i then f ∷ dealt_from (k + 1) workers i fs else dealt_from (k + 1) workers i fs
 
+-- those that the worker i gets where the first of them is number 0
 abbrev pub dealt : ℕ → ℕ → List Family → List Family
 dealt workers i families = dealt_from 0 workers i families
 

@@ -3,10 +3,11 @@ use Rattle.std.specs.Prelude.{◌≡◌, List, ◌++◌, map}
 use Rattle.std.specs.List.{flat_map, AllZip}
 use Rattle.probe_family.specs.declared.family.Family.{Family}
 use Rattle.probe_family.specs.declared.ending.Ended.{Ended}
-use Rattle.deque_reach.specs.Fits.{AsOften}
+use Rattle.probe_family.specs.Often.{AsOften}
 use Rattle.deque_reach.specs.Reaches.{IsLeft}
 use Rattle.steal_frontier.specs.declared.seat.Seat.{Seat}
-use Rattle.steal_frontier.specs.Views.{Gave, roots_of, waiting_of, families_of}
+use Rattle.probe_family.specs.Often.{families_of}
+use Rattle.steal_frontier.specs.Views.{Gave, roots_of, waiting_of}
 use Rattle.steal_frontier.specs.Seats.{view_of}
 
 -- the families that all seats ended, each as it was

@@ -13,16 +13,19 @@ use Rattle.steal_frontier.specs.Views.{SeatView, IsSound, roots_of}
 abbrev pub view_of : Seat → SeatView
 view_of s = record { reach = Reaches.view_of s.reach; stack = s.stack.items; held = s.held; ended = s.ended.items; roots = s.roots }
 
--- how many workers there are, and what the families of the frontier fit
+-- how many workers there are
 abbrev pub workers_of : Frontier → ℕ
 workers_of f = length (deques_of f.deques)
 
+-- over how many probes the families of the frontier are
 abbrev pub probes_of : Frontier → ℕ
 probes_of f = Reaches.probes_of f.deques
 
+-- how many of them their tuples have at most
 abbrev pub order_of : Frontier → ℕ
 order_of f = Reaches.order_of f.deques
 
+-- the family fits the frontier
 abbrev pub FitsFrontier : Frontier → Family → Type 0
 FitsFrontier f family = Fits (probes_of f) (order_of f) family
 

@@ -1,10 +1,11 @@
 -- What a seat has, and how what it gave follows from that.
-use Rattle.std.specs.Prelude.{ℕ, ◌≤◌, Option, List, ◌++◌, All, IfSome, length, map, take, drop}
+use Rattle.std.specs.Prelude.{ℕ, ◌≤◌, Option, List, ◌++◌, All, IfSome, length, take, drop}
 use Rattle.std.specs.List.{flat_map}
 use Rattle.std.specs.Option.{option_to_list}
 use Rattle.probe_family.specs.declared.family.Family.{Family}
 use Rattle.probe_family.specs.declared.ending.Ended.{Ended}
-use Rattle.deque_reach.specs.Fits.{Fits, AsOften}
+use Rattle.probe_family.specs.Often.{AsOften, families_of}
+use Rattle.deque_reach.specs.Fits.{Fits}
 use Rattle.deque_reach.specs.Views.{ReachView}
 
 -- What was done with the seat's reach; the families on its own stack, the top one last; the one that is held; those
@@ -31,10 +32,6 @@ taken_of v = v.reach.popped ++ flat_map (λ fs. fs) v.reach.stolen
 -- the families that the seat is still to end: the one that is held and those on the stack
 abbrev pub waiting_of : SeatView → List Family
 waiting_of v = option_to_list v.held ++ v.stack
-
--- the families of these records
-abbrev pub families_of : List Ended → List Family
-families_of records = map (λ (e : Ended). e.family) records
 
 -- The balance of a seat: a family that it gave was pushed on its deque after the roots, is on its stack, is held or is
 -- ended, and of these families only those that it took from a deque were not given by it. So the families that it

@@ -1,6 +1,7 @@
 //! The frontier, as all workers share it, and its seats.
 ghost use Rattle.std.specs.Prelude.{◌≡◌, ◌<◌, ◌≤◌, [], None, All, IfOk, map};
-ghost use Rattle.deque_reach.specs.Fits.{AsOften, Fits};
+ghost use Rattle.probe_family.specs.Often.{AsOften};
+ghost use Rattle.deque_reach.specs.Fits.{Fits};
 ghost use Rattle.std.specs.List.{flat_map};
 ghost use Rattle.steal_frontier.specs.Views.{Gave, roots_of};
 ghost use Rattle.steal_frontier.specs.Seats.{view_of, room_of, workers_of, probes_of, order_of, AreSeatsOf};

@@ -1,6 +1,7 @@
 //! Bringing the seats together.
 ghost use Rattle.std.specs.Prelude.{◌≡◌, ◌++◌, All, IfOk, OnOk};
-ghost use Rattle.steal_frontier.specs.Views.{waiting_of, families_of};
+ghost use Rattle.probe_family.specs.Often.{families_of};
+ghost use Rattle.steal_frontier.specs.Views.{waiting_of};
 ghost use Rattle.steal_frontier.specs.Seats.{view_of, FitsFrontier, AreSeatsOf};
 ghost use Rattle.steal_frontier.specs.Gathers.{all_ended, LeftAre, Balances};
 

@@ -19,8 +19,6 @@ mod give;
 mod seat;
 mod steal;
 mod take;
-#[cfg(test)]
-mod tests;
 
 pub use frontier::Frontier;
 pub use gathered::{Gathered, gather};

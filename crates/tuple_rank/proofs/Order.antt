@@ -16,16 +16,16 @@ use Rattle.tuple_rank.proofs.Places.{of_sizes, of_sizes-more, get-number, get-tu
 
 -- ---- ascending lists of numbers from low on and below n, by recursion
 
-abbrev pub IsWithin : ℕ → ℕ → List ℕ → Type 0
-IsWithin low n [] = Unit {0}
-IsWithin low n (x ∷ xs) = (low ≤ x) × (x < n) × IsWithin (x + 1) n xs
+abbrev pub IsBetween : ℕ → ℕ → List ℕ → Type 0
+IsBetween low n [] = Unit {0}
+IsBetween low n (x ∷ xs) = (low ≤ x) × (x < n) × IsBetween (x + 1) n xs
 
-pub within-lower : (low low' n : ℕ) (xs : List ℕ) → low' ≤ low → IsWithin low n xs → IsWithin low' n xs
+pub within-lower : (low low' n : ℕ) (xs : List ℕ) → low' ≤ low → IsBetween low n xs → IsBetween low' n xs
 within-lower low low' n [] le h = tt
 within-lower low low' n (x ∷ xs) le h = ((omega (arith, h.0)), h.1, h.2)
 
 -- there are at most as many as there are numbers
-pub within-few : (low n : ℕ) (xs : List ℕ) → low ≤ n → IsWithin low n xs → low + length xs ≤ n
+pub within-few : (low n : ℕ) (xs : List ℕ) → low ≤ n → IsBetween low n xs → low + length xs ≤ n
 within-few low n [] le h = omega arith
 within-few low n (x ∷ xs) le h = omega (arith, h.0, h.1, within-few (x + 1) n xs (omega (arith, h.1)) h.2)
 
@@ -36,27 +36,27 @@ increasing-cons x xs h first (suc k) lt = let e : suc k + 1 ≡ suc (k + 1) = om
 increasing-tail : (x : ℕ) (xs : List ℕ) → IsStrictlyIncreasing (x ∷ xs) → IsStrictlyIncreasing xs
 increasing-tail x xs h k lt = let e : suc k + 1 ≡ suc (k + 1) = omega arith in subst (λ j. slice_index xs k < slice_index (x ∷ xs) j) e (h (suc k) (omega arith))
 
-pub within-increasing : (low n : ℕ) (xs : List ℕ) → IsWithin low n xs → IsStrictlyIncreasing xs
+pub within-increasing : (low n : ℕ) (xs : List ℕ) → IsBetween low n xs → IsStrictlyIncreasing xs
 within-increasing low n [] h = λ k lt. absurd (omega arith)
 within-increasing low n (x ∷ []) h = increasing-cons x [] (λ k lt. absurd (omega arith)) (λ lt. absurd (omega arith))
 within-increasing low n (x ∷ y ∷ ys) h = increasing-cons x (y ∷ ys) (within-increasing (x + 1) n (y ∷ ys) h.2) (λ _. omega (arith, h.2.0))
 
-pub within-below : (low n : ℕ) (xs : List ℕ) → IsWithin low n xs → All (λ x. x < n) xs
+pub within-below : (low n : ℕ) (xs : List ℕ) → IsBetween low n xs → All (λ x. x < n) xs
 within-below low n [] h = All-nil (λ x. x < n)
 within-below low n (x ∷ xs) h = All-cons (λ x. x < n) x xs h.1 (within-below (x + 1) n xs h.2)
 
-pub within-from : (low n : ℕ) (xs : List ℕ) → IsStrictlyIncreasing xs → All (λ x. x < n) xs → (0 < length xs → low ≤ slice_index xs 0) → IsWithin low n xs
+pub within-from : (low n : ℕ) (xs : List ℕ) → IsStrictlyIncreasing xs → All (λ x. x < n) xs → (0 < length xs → low ≤ slice_index xs 0) → IsBetween low n xs
 within-from low n [] up below first = tt
 within-from low n (x ∷ xs) up below first =
     (first (omega arith), below 0 0 (omega arith), within-from (x + 1) n xs (increasing-tail x xs up) (λ k d lt. below (suc k) d (omega arith)) (λ some. omega (arith, up 0 (omega arith))))
 
-pub tuple-within : (n t : ℕ) (xs : List ℕ) → IsTuple n t xs → IsWithin 0 n xs
+pub tuple-within : (n t : ℕ) (xs : List ℕ) → IsTuple n t xs → IsBetween 0 n xs
 tuple-within n t xs is = within-from 0 n xs is.ascending is.below (λ _. omega arith)
 
 -- ---- the choices are the ascending lists of their length
 
 abbrev IsChoice : ℕ → ℕ → ℕ → List ℕ → Type 0
-IsChoice k low n ys = (length ys ≡ k) × IsWithin low n ys
+IsChoice k low n ys = (length ys ≡ k) × IsBetween low n ys
 
 choices-are : (k low n room : ℕ) → low + room ≡ n → All (IsChoice k low n) (choices k (range_with_len low room))
 choices-are zero low n room is = All-same (IsChoice zero low n) _ _ (choices-zero (range_with_len low room)) (All-cons (IsChoice zero low n) [] [] (refl, tt) (All-nil (IsChoice zero low n)))
@@ -71,7 +71,7 @@ choices-are (suc k) low n (suc room) is =
     All-same (IsChoice (suc k) low n) _ _ (choices-more k low rest) (All-append (IsChoice (suc k) low n) (map (λ ys. low ∷ ys) (choices k rest)) (choices (suc k) rest) first later)
 
 -- each ascending list has a place
-place_of_choice : (low n : ℕ) (ys : List ℕ) → IsWithin low n ys → (r : ℕ) × (slice_get (choices (length ys) (range_with_len low (n - low))) r ≡ Some ys)
+place_of_choice : (low n : ℕ) (ys : List ℕ) → IsBetween low n ys → (r : ℕ) × (slice_get (choices (length ys) (range_with_len low (n - low))) r ≡ Some ys)
 place_of_choice low n [] h = (0, ap (λ xs. slice_get xs 0) (choices-zero (range_with_len low (n - low))))
 place_of_choice low n (x ∷ xs) h =
     let found : (r : ℕ) × (slice_get (choices (length xs) (range_with_len (x + 1) (n - (x + 1)))) r ≡ Some xs) = place_of_choice (x + 1) n xs h.2 in
@@ -90,19 +90,19 @@ place_of_tuple n t (x ∷ xs) is =
 
 -- ---- the tuples are the lists that are tuples
 
-sized-are : (n s : ℕ) → All (λ xs. IsWithin 0 n xs × (1 ≤ length xs) × (length xs ≤ s)) (of_sizes n s)
-sized-are n zero = All-nil (λ xs. IsWithin 0 n xs × (1 ≤ length xs) × (length xs ≤ zero))
+sized-are : (n s : ℕ) → All (λ xs. IsBetween 0 n xs × (1 ≤ length xs) × (length xs ≤ s)) (of_sizes n s)
+sized-are n zero = All-nil (λ xs. IsBetween 0 n xs × (1 ≤ length xs) × (length xs ≤ zero))
 sized-are n (suc s) =
-    let P : List ℕ → Type 0 = λ xs. IsWithin 0 n xs × (1 ≤ length xs) × (length xs ≤ suc s) in
+    let P : List ℕ → Type 0 = λ xs. IsBetween 0 n xs × (1 ≤ length xs) × (length xs ≤ suc s) in
     All-same P _ _ (of_sizes-more n s)
     (All-append P (of_sizes n s) (choices (suc s) (range_with_len 0 n))
-    (All-weaker (λ xs. IsWithin 0 n xs × (1 ≤ length xs) × (length xs ≤ s)) P (λ xs h. (h.0, h.1, omega (arith, h.2))) (of_sizes n s) (sized-are n s))
+    (All-weaker (λ xs. IsBetween 0 n xs × (1 ≤ length xs) × (length xs ≤ s)) P (λ xs h. (h.0, h.1, omega (arith, h.2))) (of_sizes n s) (sized-are n s))
     (All-weaker (IsChoice (suc s) 0 n) P (λ xs h. (h.1, omega (arith, h.0), omega (arith, h.0))) (choices (suc s) (range_with_len 0 n)) (choices-are (suc s) 0 n n (omega arith))))
 
 tuples-are : (n t : ℕ) → All (IsTuple n t) (tuples n t)
 unfolding tuples
 tuples-are n t =
-    All-weaker (λ xs. IsWithin 0 n xs × (1 ≤ length xs) × (length xs ≤ min t n)) (IsTuple n t)
+    All-weaker (λ xs. IsBetween 0 n xs × (1 ≤ length xs) × (length xs ≤ min t n)) (IsTuple n t)
     (λ xs h. record { ascending = within-increasing 0 n xs h.0; below = within-below 0 n xs h.0; some = h.1; few = h.2 }) (of_sizes n (min t n)) (sized-are n (min t n))
 
 pub contains_at : {X : Type 0} (xs : List X) (r : ℕ) (x : X) → slice_get xs r ≡ Some x → Contains xs x

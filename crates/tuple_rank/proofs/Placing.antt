@@ -6,7 +6,7 @@ use Rattle.std.proofs.Math.Seq.{drop-cons}
 use Rattle.tuple_rank.specs.Choices.{choices, choose}
 use Rattle.tuple_rank.proofs.Choosing.{choices-zero, choose-zero, choose-more, choose-grows}
 use Rattle.tuple_rank.proofs.Places.{get-number}
-use Rattle.tuple_rank.proofs.Order.{IsWithin}
+use Rattle.tuple_rank.proofs.Order.{IsBetween}
 
 -- how many ways there are to go on, from x on or behind x
 choose-at : (n x k : ℕ) → x < n → choose (n - x) (suc k) ≡ choose (n - (x + 1)) k + choose (n - (x + 1)) (suc k)
@@ -17,11 +17,11 @@ choose-at n x k lt = let e : n - x ≡ suc (n - (x + 1)) = omega arith in ap (λ
 pub record IsPlaced (n : ℕ) (numbers : List ℕ) (i place low left : ℕ) : Type 0 where
   pub left_is : i + left ≡ length numbers
   pub low_in : low ≤ n
-  pub within : IsWithin low n (drop i numbers)
+  pub within : IsBetween low n (drop i numbers)
   pub room : place + choose (n - low) left ≤ choose n (length numbers)
   pub leads : (r : ℕ) → slice_get (choices left (range_with_len low (n - low))) r ≡ Some (drop i numbers) → slice_get (choices (length numbers) (range_with_len 0 n)) (place + r) ≡ Some numbers
 
-pub placed_none : (n : ℕ) (numbers : List ℕ) → IsWithin 0 n numbers → IsPlaced n numbers 0 0 0 (length numbers)
+pub placed_none : (n : ℕ) (numbers : List ℕ) → IsBetween 0 n numbers → IsPlaced n numbers 0 0 0 (length numbers)
 placed_none n numbers within =
     let all : n - 0 ≡ n = omega arith in
     record {
@@ -52,8 +52,8 @@ module _ (n : ℕ) (numbers : List ℕ) (i place low left x : ℕ) (is : IsPlace
   here : drop i numbers ≡ x ∷ drop (i + 1) numbers
   here = drop-cons numbers i 0 lt ∙ ap (λ y. y ∷ drop (suc i) numbers) (sym x_is) ∙ ap (λ j. x ∷ drop j numbers) (sym (add-one i))
 
-  in_here : IsWithin low n (x ∷ drop (i + 1) numbers)
-  in_here = subst (IsWithin low n) here is.within
+  in_here : IsBetween low n (x ∷ drop (i + 1) numbers)
+  in_here = subst (IsBetween low n) here is.within
 
   abbrev k : ℕ
   k = left - 1

@@ -4,8 +4,6 @@ ghost use Rattle.tuple_rank.specs.Choices.{choose};
 ghost use Rattle.tuple_rank.specs.Tuples.{tuples};
 
 mod rank;
-#[cfg(test)]
-mod tests;
 mod unrank;
 
 use crate::count_stop::CountStop;

@@ -1,15 +1,12 @@
 //! Why a count is refused.
 use std::alloc::AllocError;
-use thiserror::Error;
 
 /// Why tuples are not counted.
-#[derive(Debug, Drop, Error)]
+#[derive(Debug, Drop)]
 pub enum CountStop {
     /// There are more than 2^62 tuples.
-    #[error("too many tuples")]
     TooManyTuples,
     /// Memory was refused.
-    #[error("no memory")]
     NoMemory,
 }
 

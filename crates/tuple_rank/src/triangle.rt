@@ -2,7 +2,7 @@
 ghost use Rattle.std.specs.Prelude.{◌≡◌, ◌<◌, ◌≤◌, ◌^◌, ◌↔◌, ℕ, ◌+◌, IfOk, IsTrue, length};
 ghost use Rattle.std.specs.Option.{SomeIff};
 ghost use Rattle.tuple_rank.specs.Choices.{choose_to};
-ghost use Rattle.tuple_rank.specs.Triangle.{IsRow, IsSmall, IsTriangle};
+ghost use Rattle.tuple_rank.specs.Triangle.{IsTriangleRow, IsSmall, IsTriangle};
 ghost use Rattle.tuple_rank.specs.Tuples.{tuples};
 
 use std::alloc::{AllocError, Global};
@@ -17,7 +17,7 @@ const MOST: u64 = 1 << 62;
 fn next_row(row: &Row, t: usize) -> Row
     requires few { t ≤ 8 }
     requires small { IsSmall t row.now }
-    ensures { (m : ℕ) → IsRow m t row.now → IsRow (m + 1) t result }
+    ensures { (m : ℕ) → IsTriangleRow m t row.now → IsTriangleRow (m + 1) t result }
 {
     let mut next = [0; 8];
     let mut before = 1;
@@ -44,7 +44,7 @@ fn is_small(row: &Row, t: usize) -> bool
 /// The sum of the first t numbers of the row of n things, if it is at most 2^62.
 fn total_of(row: &Row, n: u32, t: usize) -> Option<u64>
     requires few { t ≤ 8 }
-    requires row { IsRow n t row.now }
+    requires row { IsTriangleRow n t row.now }
     requires small { IsSmall t row.now }
     ensures { SomeIff result (choose_to n t ≤ 2 ^ 62) (choose_to n t) }
 {

@@ -1,5 +1,5 @@
 -- A search takes a family from its stack, and then what the outcome of the work on it says.
-use Rattle.std.proofs.Common.{◌≡◌, ℕ, ◌<◌, ◌≤◌, List, [], ◌∷◌, ◌++◌, length, reverse, refl, sym, ap, ◌∙◌, subst, arith, Option, None, Some}
+use Rattle.std.proofs.Common.{◌≡◌, ℕ, ◌<◌, List, [], ◌∷◌, ◌++◌, length, reverse, sym, ap, ◌∙◌, subst, Option, Some}
 use Rattle.std.proofs.lemmas.List.Elements.{All-head}
 use Rattle.std.specs.Option.{option_map_or}
 use Rattle.expr_table.specs.declared.instance.Instance.{Instance}
@@ -10,14 +10,12 @@ use Rattle.tuple_rank.specs.Tuples.{IsTuple, rank_of}
 use Rattle.probe_family.specs.declared.family.Family.{Family}
 use Rattle.probe_family.specs.Families.{IsFamily}
 use Rattle.family_split.specs.Children.{children_of}
-use Rattle.extend_set.specs.Hull.{hull_of}
 use Rattle.frontier_core.specs.declared.one_family.Outcome.{Outcome}
 use Rattle.frontier_core.specs.declared.one_family.Outcome.TheVariants.{Proved, Failed, Beyond}
-use Rattle.frontier_core.specs.Search.{IsSearched, is_beyond, least_rank}
+use Rattle.frontier_core.specs.Search.{IsSearched}
 use Rattle.frontier_core.specs.Work.{IsOutcome}
 use Rattle.frontier_core.proofs.Trees.{next_of}
 use Rattle.worker_pool.specs.declared.found.Found.{Found}
-use Rattle.worker_pool.specs.declared.found.Found.TheVariants as found
 use Rattle.worker_pool.specs.declared.search.Search.{Search}
 use Rattle.worker_pool.specs.Found.{best_of}
 use Rattle.worker_pool.specs.Halfway.{Ends, HasFound, IsHalfway, waiting_of}

@@ -1,8 +1,6 @@
 -- What a search on one thread has found, and what the end of a family adds.
-use Rattle.std.specs.Prelude.{ℕ, ◌≡◌, Bool, Option, None, Some, List, [], ◌∷◌, ◌++◌, reverse}
+use Rattle.std.specs.Prelude.{ℕ, ◌≡◌, Bool, Option, None, Some, List, [], ◌∷◌, ◌++◌}
 use Rattle.probe_family.specs.declared.family.Family.{Family}
-use Rattle.frontier_core.specs.declared.one_family.Outcome.{Outcome}
-use Rattle.frontier_core.specs.declared.one_family.Outcome.TheVariants as outcome
 use Rattle.frontier_core.specs.declared.verdict.Verdict.{Verdict}
 use Rattle.frontier_core.specs.declared.verdict.Verdict.TheVariants.{Secure, Unproved}
 use Rattle.frontier_core.specs.Tree.{closed_under}

@@ -22,6 +22,7 @@ HasFound x t waiting (Closed closed) = closed.items ++ flat_map (under x) waitin
 HasFound x t waiting (Failed tuple rank) =
     IsTuple (length x.probes) t tuple.items × IsFalse (is_proved x tuple.items) × (rank ≡ rank_of (length x.probes) t tuple.items)
 
+-- So far the search has come: the families that wait are such as a search has, what is found is right, and no tuple is lost.
 pub record IsHalfway (x : Instance) (t : ℕ) (waiting : List Family) (found : Found) : Type 0 where
   pub searched : All (IsSearched x t) waiting
   pub has_found : HasFound x t waiting found

@@ -1,7 +1,7 @@
 use Rattle.std.proofs.Common.{ℕ, ◌<◌, ◌*◌, ◌/◌, ◌%◌, ◌^◌, slice_index, refl, ⊎_elim, arith}
 use Rattle.std.proofs.Math.Nat.{div-le_self}
 use Rattle.std.proofs.lemmas.Bool.{cases_lt}
-use Rattle.bit_rows.proofs.Bits.{first_in_rest, first_in_word, none_in_rest, none_in_word, bit_of-past}
+use Rattle.bit_rows.proofs.Bits.{first_in_rest, first_in_word, none_in_rest, none_in_word, words_bit-past}
 use Rattle.bit_rows.proofs.words.first_from.Goals as goal
 
 pub returns-then-rest-ne0 : goal.returns-then-rest-ne0
@@ -24,4 +24,4 @@ loop-k-preserved c =
     }
 
 pub returns : goal.returns
-returns c = λ i from. ⊎_elim (λ before. c.loop-k.invariant.none i from before) (λ past. bit_of-past c.args.words.now i (omega arith)) (cases_lt i (c.loop-k.k * 64))
+returns c = λ i from. ⊎_elim (λ before. c.loop-k.invariant.none i from before) (λ past. words_bit-past c.args.words.now i (omega arith)) (cases_lt i (c.loop-k.k * 64))

@@ -2,7 +2,8 @@ use Rattle.std.proofs.Common.{◌≡◌, length, sym, ap, ◌∙◌, arith}
 use Rattle.bit_rows.specs.Sets.{members}
 use Rattle.once_random.specs.Cuts.{cuts_of}
 use Rattle.once_random.specs.Tuples.{roots_of}
-use Rattle.chain_check.proofs.Tables.{inputs_within, within_is}
+use Rattle.once_random.proofs.Facts.{inputs_within}
+use Rattle.chain_check.proofs.Tables.{within_is}
 use Rattle.chain_check.proofs.chain.answer_for.Goals as goal
 
 pub are_within-requires-clause-few_groups : goal.are_within-requires-clause-few_groups
@@ -15,7 +16,7 @@ returns-then-are_within-clause-answer g c =
     let roots = roots_of c.args.instance.now (members c.args.probes.now) in
     let made = c.in_default.ensures.made in (
       made.chain,
-      sym (within_is c.args.instance.now c.requires.table c.requires.fitting c.as_slice.result.now c.as_slice.ensures roots (cuts_of c.args.cuts.now) c.args.bound
+      sym (within_is c.args.instance.now c.as_slice.result.now c.as_slice.ensures roots (cuts_of c.args.cuts.now) c.args.bound
           c.are_within.result (c.are_within.ensures.within roots (cuts_of c.args.cuts.now) made.shows)) ∙ c.if-are_within.true,
     )
 
@@ -24,6 +25,6 @@ returns-else-are_within-clause-answer g c =
     let roots = roots_of c.args.instance.now (members c.args.probes.now) in
     let made = c.in_default.ensures.made in (
       made.chain,
-      sym (within_is c.args.instance.now c.requires.table c.requires.fitting c.as_slice.result.now c.as_slice.ensures roots (cuts_of c.args.cuts.now) c.args.bound
+      sym (within_is c.args.instance.now c.as_slice.result.now c.as_slice.ensures roots (cuts_of c.args.cuts.now) c.args.bound
           c.are_within.result (c.are_within.ensures.within roots (cuts_of c.args.cuts.now) made.shows)) ∙ c.if-are_within.false,
     )

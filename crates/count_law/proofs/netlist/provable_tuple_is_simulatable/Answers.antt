@@ -1,6 +1,6 @@
 use Rattle.once_random.specs.Tuples.{roots_of}
 use Rattle.once_random.proofs.Facts.{roots_are_rows, roots_among}
-use Rattle.count_law.specs.Instances.{leaves_left}
+use Rattle.once_random.specs.Provable.{leaves_left}
 use Rattle.count_law.specs.Netlists.{count_of_tuple, leaf_groups}
 use Rattle.count_law.proofs.Observing.{from_rows}
 use Rattle.count_law.proofs.Dependence.{no_leaf-independent}

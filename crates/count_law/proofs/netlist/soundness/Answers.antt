@@ -1,7 +1,7 @@
 use Rattle.std.proofs.Common.{subst}
 use Rattle.expr_table.specs.declared.instance.Notion.TheVariants.{Probing}
 use Rattle.once_random.specs.Tuples.{bound_of, roots_of}
-use Rattle.count_law.specs.Instances.{leaves_left}
+use Rattle.once_random.specs.Provable.{leaves_left}
 use Rattle.count_law.specs.Netlists.{IsSimulatableTuple, count_of_tuple, leaf_groups}
 use Rattle.count_law.proofs.Dependence.{no_leaf-independent}
 use Rattle.count_law.proofs.netlist.soundness.Goals as goal

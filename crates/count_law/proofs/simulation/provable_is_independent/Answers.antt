@@ -1,4 +1,4 @@
-use Rattle.count_law.specs.Instances.{leaves_left}
+use Rattle.once_random.specs.Provable.{leaves_left}
 use Rattle.count_law.specs.RowCounts.{count_of_rows}
 use Rattle.count_law.proofs.Dependence.{no_leaf-independent}
 use Rattle.count_law.proofs.simulation.provable_is_independent.Goals as goal

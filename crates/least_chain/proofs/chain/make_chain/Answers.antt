@@ -1,8 +1,7 @@
 use Rattle.std.proofs.Common.{◌≡◌, [], List, ℕ, length, sym, ap, subst, arith}
 use Rattle.bit_rows.specs.Sets.{members}
-use Rattle.once_random.specs.Tuples.{roots_of}
+use Rattle.once_random.specs.Tuples.{roots_of, roots_over}
 use Rattle.live_rows.specs.declared.mark.Mark.{Mark}
-use Rattle.live_rows.specs.Leaves.{roots_over}
 use Rattle.live_rows.specs.Marks.{queued_count}
 use Rattle.live_rows.specs.Shown.{Shows}
 use Rattle.live_rows.proofs.Facts.{roots_within}

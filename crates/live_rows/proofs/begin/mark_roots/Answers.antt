@@ -3,7 +3,7 @@ use Rattle.expr_table.specs.declared.instance.ProbeRoots.{ProbeRoots}
 use Rattle.expr_table.specs.declared.node.Row.{Row}
 use Rattle.expr_table.specs.Table.{has, numbers}
 use Rattle.bit_rows.proofs.Facts.{IsLeastFrom, members-none_from}
-use Rattle.live_rows.specs.Leaves.{roots_over}
+use Rattle.once_random.specs.Tuples.{roots_over}
 use Rattle.live_rows.specs.Marks.{mark_at}
 use Rattle.live_rows.specs.Spread.{rooted}
 use Rattle.live_rows.proofs.Rooted.{probe_within, one_more_probe, member_some, member_none, below_least}
@@ -11,22 +11,22 @@ use Rattle.live_rows.proofs.begin.mark_roots.Goals as goal
 
 pub bounds-probes-probe : goal.bounds-probes-probe
 bounds-probes-probe c =
-    let least : IsLeastFrom c.args.chosen.now c.loop-probe.start c.in-Some.probe = member_some c.args.chosen.now c.loop-probe.start c.in-Some.probe (sym c.in-Some.is ∙ c.member_from.ensures) in
+    let least : IsLeastFrom c.args.chosen.now c.loop-probe.start c.in-Some.probe = member_some c.args.chosen.now c.loop-probe.start c.in-Some.probe (sym c.in-Some.is ∙ c.chosen_from.ensures) in
     omega (arith, least.within)
 
 pub overflow_add-start : goal.overflow_add-start
 overflow_add-start c =
-    let least : IsLeastFrom c.args.chosen.now c.loop-probe.start c.in-Some.probe = member_some c.args.chosen.now c.loop-probe.start c.in-Some.probe (sym c.in-Some.is ∙ c.member_from.ensures) in
+    let least : IsLeastFrom c.args.chosen.now c.loop-probe.start c.in-Some.probe = member_some c.args.chosen.now c.loop-probe.start c.in-Some.probe (sym c.in-Some.is ∙ c.chosen_from.ensures) in
     omega (arith, least.within)
 
 pub loop-probe-smaller : goal.loop-probe-smaller
 loop-probe-smaller c =
-    let least : IsLeastFrom c.args.chosen.now c.loop-probe.start c.in-Some.probe = member_some c.args.chosen.now c.loop-probe.start c.in-Some.probe (sym c.in-Some.is ∙ c.member_from.ensures) in
+    let least : IsLeastFrom c.args.chosen.now c.loop-probe.start c.in-Some.probe = member_some c.args.chosen.now c.loop-probe.start c.in-Some.probe (sym c.in-Some.is ∙ c.chosen_from.ensures) in
     omega (arith, least.from, least.within)
 
 pub mark_probe-requires-clause-within : goal.mark_probe-requires-clause-within
 mark_probe-requires-clause-within c k d l =
-    let least : IsLeastFrom c.args.chosen.now c.loop-probe.start c.in-Some.probe = member_some c.args.chosen.now c.loop-probe.start c.in-Some.probe (sym c.in-Some.is ∙ c.member_from.ensures) in
+    let least : IsLeastFrom c.args.chosen.now c.loop-probe.start c.in-Some.probe = member_some c.args.chosen.now c.loop-probe.start c.in-Some.probe (sym c.in-Some.is ∙ c.chosen_from.ensures) in
     let rows : c.as_slice.result.now ≡ c.index-probes-probe.result.rows = c.as_slice.ensures ∙ ap (λ (q : ProbeRoots). q.rows) (sym c.index-probes-probe.is) in
     let here : k < length c.index-probes-probe.result.rows = subst (λ (rs : List Row). k < length rs) rows l in
     let lt : c.in-Some.probe < length c.args.probes.now = omega (arith, least.within) in
@@ -38,7 +38,7 @@ mark_probe-requires-clause-within c k d l =
 -- the rows of one more member are roots
 pub loop-probe-preserved : goal.loop-probe-preserved
 loop-probe-preserved c =
-    let least : IsLeastFrom c.args.chosen.now c.loop-probe.start c.in-Some.probe = member_some c.args.chosen.now c.loop-probe.start c.in-Some.probe (sym c.in-Some.is ∙ c.member_from.ensures) in
+    let least : IsLeastFrom c.args.chosen.now c.loop-probe.start c.in-Some.probe = member_some c.args.chosen.now c.loop-probe.start c.in-Some.probe (sym c.in-Some.is ∙ c.chosen_from.ensures) in
     let lt : c.in-Some.probe < length c.args.probes.now = omega (arith, least.within) in
     record {
       marks =
@@ -57,4 +57,4 @@ pub returns-clause-marks : goal.returns-clause-marks
 returns-clause-marks c r =
     c.loop-probe.invariant.marks r
     ∙ ap (λ ms. rooted (has (roots_over c.args.probes.now ms) r) (mark_at c.args.marks.now r))
-    (members-none_from c.args.chosen.now c.loop-probe.start (member_none c.args.chosen.now c.loop-probe.start (sym c.in_default.is ∙ c.member_from.ensures)))
+    (members-none_from c.args.chosen.now c.loop-probe.start (member_none c.args.chosen.now c.loop-probe.start (sym c.in_default.is ∙ c.chosen_from.ensures)))

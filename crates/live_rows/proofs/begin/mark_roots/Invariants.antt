@@ -1,7 +1,7 @@
 use Rattle.std.proofs.Common.{◌≡◌, ◌-◌, ◌≤◌, ℕ, length}
 use Rattle.expr_table.specs.Table.{has}
 use Rattle.bit_rows.specs.Sets.{members_below}
-use Rattle.live_rows.specs.Leaves.{roots_over}
+use Rattle.once_random.specs.Tuples.{roots_over}
 use Rattle.live_rows.specs.Marks.{mark_at}
 use Rattle.live_rows.specs.Spread.{rooted}
 use Rattle.live_rows.specs.State.{IsFound}

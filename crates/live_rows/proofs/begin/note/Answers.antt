@@ -1,7 +1,7 @@
 use Rattle.std.proofs.Common.{◌<◌, ◌++◌, length, arith, ap, ◌∙◌}
 use Rattle.std.proofs.lemmas.List.{append_assoc}
 use Rattle.once_random.proofs.Facts.{has_left, has_right}
-use Rattle.live_rows.specs.Lists.{Held, with_number}
+use Rattle.live_rows.specs.Lists.{Held, with_added}
 use Rattle.live_rows.proofs.Numbers.{with_more}
 use Rattle.live_rows.proofs.begin.note.Goals as goal
 
@@ -16,10 +16,10 @@ add_parent-requires-then-a-b-clause-within c =
 pub returns-then-a-b-clause-more : goal.returns-then-a-b-clause-more
 returns-then-a-b-clause-more c =
     let first = with_more c.args.found.now.numbers c.in-And.a.0 in
-    let second = with_more (with_number c.args.found.now.numbers c.in-And.a.0) c.in-And.b.0 in (
+    let second = with_more (with_added c.args.found.now.numbers c.in-And.a.0) c.in-And.b.0 in (
       first.0 ++ second.0,
       ap (λ (h : Held). h.numbers) c.add_parent-then-a-b.ensures.found
-          ∙ ap (λ (h : Held). with_number h.numbers c.in-And.b.0) c.add_parent.ensures.found
+          ∙ ap (λ (h : Held). with_added h.numbers c.in-And.b.0) c.add_parent.ensures.found
           ∙ second.1 ∙ ap (λ xs. xs ++ second.0) first.1 ∙ append_assoc c.args.found.now.numbers first.0 second.0,
     )
 

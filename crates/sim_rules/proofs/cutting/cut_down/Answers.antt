@@ -1,6 +1,6 @@
 use Rattle.std.proofs.Common.{◌+◌, [], length, ap, ◌∙◌}
 use Rattle.bit_rows.specs.Sets.{members}
-use Rattle.live_rows.specs.Leaves.{roots_over}
+use Rattle.once_random.specs.Tuples.{roots_over}
 use Rattle.live_rows.specs.Shown.{live_count}
 use Rattle.sim_rules.proofs.Turns.{begun, turned, done}
 use Rattle.sim_rules.proofs.cutting.cut_down.Goals as goal

@@ -1,9 +1,9 @@
 use Rattle.std.proofs.Common.{◌≡◌, ◌+◌, ◌-◌, [], length}
 use Rattle.bit_rows.specs.Sets.{members}
-use Rattle.live_rows.specs.Leaves.{roots_over}
+use Rattle.once_random.specs.Tuples.{roots_over}
 use Rattle.live_rows.specs.Marks.{queued_count}
 use Rattle.live_rows.specs.Shown.{live_count}
-use Rattle.sim_rules.specs.Cutting.{IsCutting}
+use Rattle.sim_rules.specs.Cutting.{IsServing}
 use Rattle.sim_rules.proofs.cutting.cut_down.Given as goal
 
 -- cuts are being made; as many rows are found as were live before any cut
@@ -11,7 +11,7 @@ abbrev pub invariant-loop-row : goal.invariant-loop-row
 invariant-loop-row g l =
     let roots = roots_over l.probes (members l.chosen) in
     let nodes = g.S.Looks.nodes l.source in
-    IsCutting nodes roots (l.initial.steps + live_count nodes roots []) l.live l.live.alone l.steps
+    IsServing nodes roots (l.initial.steps + live_count nodes roots []) l.live l.live.alone l.steps
     × (length l.live.found ≡ live_count nodes roots [])
 
 -- what is found and had no turn yet

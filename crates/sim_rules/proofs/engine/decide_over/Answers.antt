@@ -1,8 +1,8 @@
 use Rattle.std.proofs.Common.{sym, ◌∙◌}
 use Rattle.bit_rows.specs.Sets.{members}
-use Rattle.live_rows.specs.Leaves.{roots_over}
+use Rattle.once_random.specs.Tuples.{roots_over}
+use Rattle.once_random.proofs.Facts.{saturated_decides}
 use Rattle.live_rows.proofs.Facts.{roots_within}
-use Rattle.sim_rules.proofs.Decides.{saturated_decides}
 use Rattle.sim_rules.proofs.engine.decide_over.Goals as goal
 
 pub returns-clause-provable : goal.returns-clause-provable

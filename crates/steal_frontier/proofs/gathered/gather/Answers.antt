@@ -2,7 +2,7 @@ use Rattle.std.proofs.Common.{◌≡◌, ◌++◌, length, sym, ap, ◌∙◌, s
 use Rattle.std.specs.Vec.Iter.{into_iter_items}
 use Rattle.std.proofs.lemmas.List.Elements.{All-append, All-same}
 use Rattle.deque_reach.specs.Reaches.{AreReachesOf, IsLeft}
-use Rattle.steal_frontier.specs.Views.{families_of}
+use Rattle.probe_family.specs.Often.{families_of}
 use Rattle.steal_frontier.specs.Seats.{FitsFrontier}
 use Rattle.steal_frontier.specs.Gathers.{all_ended, all_waiting}
 use Rattle.steal_frontier.proofs.Joined.{reaches_of, all_reaches, all_came, ended_fit, waiting_fit, balance_as}

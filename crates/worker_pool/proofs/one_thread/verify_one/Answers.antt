@@ -1,10 +1,7 @@
-use Rattle.std.proofs.Common.{◌≡◌, ◌≤◌, ◌<◌, ◌∙◌, List, [], ◌∷◌, ap, refl, sym, subst, reverse, vec_len}
-use Rattle.probe_family.specs.declared.family.Family.{Family}
-use Rattle.probe_family.specs.Families.{IsFamily}
+use Rattle.std.proofs.Common.{◌≡◌, ◌≤◌, ◌<◌, ◌∙◌, [], ◌∷◌, ap, sym, subst, reverse, vec_len}
 use Rattle.frontier_core.specs.Search.{IsSearched}
 use Rattle.frontier_core.specs.Verdict.{IsVerdict}
 use Rattle.frontier_core.specs.Work.{IsOutcome}
-use Rattle.worker_pool.specs.Found.{best_of}
 use Rattle.worker_pool.specs.Halfway.{IsHalfway, waiting_of}
 use Rattle.worker_pool.proofs.Searches.{on_top, top_is_searched, goes_on, goes_down}
 use Rattle.frontier_core.proofs.Stacks.{reverse_last, visits_left}

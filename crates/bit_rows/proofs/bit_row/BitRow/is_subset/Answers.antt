@@ -1,6 +1,6 @@
 use Rattle.std.proofs.Common.{◌≡◌, List, ℕ, true, ◌↔◌, sym, ap, ◌∙◌, length}
 use Rattle.bit_rows.specs.Sets.{is_subset}
-use Rattle.bit_rows.specs.Words.{bit_of}
+use Rattle.bit_rows.specs.Words.{words_bit}
 use Rattle.bit_rows.proofs.Rows.{row_set, same_lengths, same_word_count, subset-rows}
 use Rattle.bit_rows.proofs.bit_row.BitRow.is_subset.Goals as goal
 
@@ -17,8 +17,8 @@ returns c =
     let ys : List ℕ = c.other.inside.words.items in
     let x_is : c.deref.result.now ≡ xs = c.deref.ensures.value in
     let y_is : c.deref-2.result.now ≡ ys = c.deref-2.ensures.value in
-    let iff : (c.are_within.result ≡ true) ↔ ((i : ℕ) → bit_of xs i ≡ true → bit_of ys i ≡ true) =
-    ((λ yes i x. sym (ap (λ ws. bit_of ws i) y_is) ∙ c.are_within.ensures.0 yes i (ap (λ ws. bit_of ws i) x_is ∙ x)), (λ each. c.are_within.ensures.1 (λ i x. ap (λ ws. bit_of ws i) y_is ∙ each i (sym (ap (λ ws. bit_of ws i) x_is) ∙ x)))) in
+    let iff : (c.are_within.result ≡ true) ↔ ((i : ℕ) → words_bit xs i ≡ true → words_bit ys i ≡ true) =
+    ((λ yes i x. sym (ap (λ ws. words_bit ws i) y_is) ∙ c.are_within.ensures.0 yes i (ap (λ ws. words_bit ws i) x_is ∙ x)), (λ each. c.are_within.ensures.1 (λ i x. ap (λ ws. words_bit ws i) y_is ∙ each i (sym (ap (λ ws. words_bit ws i) x_is) ∙ x)))) in
     subset-rows c.self.inside.len c.other.inside.len xs ys c.self.invariant c.other.invariant c.are_within.result iff
     ∙ ap (λ flags. is_subset flags (row_set c.other.inside.len ys)) c.self.view_is
     ∙ ap (is_subset c.args.self.now) c.other.view_is

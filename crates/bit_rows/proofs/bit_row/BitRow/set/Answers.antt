@@ -1,6 +1,6 @@
 use Rattle.std.proofs.Common.{◌≡◌, ◌≢◌, List, ℕ, ◌<◌, ◌++◌, take, drop, true, sym, ap, ◌∙◌, subst, length, slice_set, arith}
 use Rattle.bit_rows.specs.Sets.{set_of}
-use Rattle.bit_rows.specs.Words.{bit_of, IsRow}
+use Rattle.bit_rows.specs.Words.{words_bit, IsRow}
 use Rattle.bit_rows.proofs.Rows.{row-room, row-within, written_back, changed-row, changed-set}
 use Rattle.bit_rows.proofs.bit_row.BitRow.set.Goals as goal
 
@@ -21,8 +21,8 @@ same_len c = c.set.auto.words ∙ ap (λ (ws : List ℕ). length ws) c.deref_mut
 back : (c : goal.After-self-1) → take c.self.inside.words.len (c.set.new.words ++ drop (length c.set.new.words) (words c)) ≡ c.set.new.words
 back c = written_back c.self.inside.words.len c.set.new.words (words c) (c.set.auto.words ∙ c.deref_mut.ensures.len)
 
-others : (c : goal.After-self-1) → (k : ℕ) → k ≢ c.args.i → bit_of c.set.new.words k ≡ bit_of (words c) k
-others c k other = c.set.ensures.others k other ∙ ap (λ ws. bit_of ws k) c.deref_mut.ensures.value
+others : (c : goal.After-self-1) → (k : ℕ) → k ≢ c.args.i → words_bit c.set.new.words k ≡ words_bit (words c) k
+others c k other = c.set.ensures.others k other ∙ ap (λ ws. words_bit ws k) c.deref_mut.ensures.value
 
 pub invariant_of-self : goal.invariant_of-self
 invariant_of-self c =
@@ -30,6 +30,6 @@ invariant_of-self c =
 
 pub returns : goal.returns
 returns c =
-    ap (λ ws. set_of c.self.inside.len (bit_of ws)) (back c)
+    ap (λ ws. set_of c.self.inside.len (words_bit ws)) (back c)
     ∙ changed-set c.self.inside.len (words c) c.self.invariant c.args.i (within c) true c.set.new.words (same_len c) c.set.ensures.bit (others c)
     ∙ ap (λ flags. slice_set flags c.args.i true) c.self.view_is

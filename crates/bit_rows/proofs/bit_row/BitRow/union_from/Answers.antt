@@ -1,6 +1,6 @@
 use Rattle.std.proofs.Common.{◌≡◌, List, ℕ, ◌||◌, ◌++◌, take, drop, sym, ap, ◌∙◌, subst, length}
 use Rattle.bit_rows.specs.Sets.{set_of, union}
-use Rattle.bit_rows.specs.Words.{bit_of, IsRow}
+use Rattle.bit_rows.specs.Words.{words_bit, IsRow}
 use Rattle.bit_rows.proofs.Rows.{same_lengths, same_word_count, written_back, union-row, union-set}
 use Rattle.bit_rows.proofs.bit_row.BitRow.union_from.Goals as goal
 
@@ -27,8 +27,8 @@ same_len c = c.set_all.auto.words ∙ ap (λ (ws : List ℕ). length ws) c.deref
 back : (c : goal.After-self-1) → take c.self.inside.words.len (c.set_all.new.words ++ drop (length c.set_all.new.words) (xs c)) ≡ c.set_all.new.words
 back c = written_back c.self.inside.words.len c.set_all.new.words (xs c) (c.set_all.auto.words ∙ c.deref_mut.ensures.len)
 
-each : (c : goal.After-self-1) → (i : ℕ) → bit_of c.set_all.new.words i ≡ (bit_of (xs c) i || bit_of (ys c) i)
-each c i = c.set_all.ensures i ∙ ap (λ ws. bit_of ws i || bit_of c.deref.result.now i) c.deref_mut.ensures.value ∙ ap (λ ws. bit_of (xs c) i || bit_of ws i) c.deref.ensures.value
+each : (c : goal.After-self-1) → (i : ℕ) → words_bit c.set_all.new.words i ≡ (words_bit (xs c) i || words_bit (ys c) i)
+each c i = c.set_all.ensures i ∙ ap (λ ws. words_bit ws i || words_bit c.deref.result.now i) c.deref_mut.ensures.value ∙ ap (λ ws. words_bit (xs c) i || words_bit ws i) c.deref.ensures.value
 
 pub invariant_of-self : goal.invariant_of-self
 invariant_of-self c =
@@ -36,7 +36,7 @@ invariant_of-self c =
 
 pub returns : goal.returns
 returns c =
-    ap (λ ws. set_of c.self.inside.len (bit_of ws)) (back c)
+    ap (λ ws. set_of c.self.inside.len (words_bit ws)) (back c)
     ∙ union-set c.self.inside.len c.other.inside.len (xs c) (ys c) c.set_all.new.words c.self.invariant c.other.invariant (same c) (same_len c) (each c)
-    ∙ ap (λ flags. union flags (set_of c.other.inside.len (bit_of (ys c)))) c.self.view_is
+    ∙ ap (λ flags. union flags (set_of c.other.inside.len (words_bit (ys c)))) c.self.view_is
     ∙ ap (union c.args.self.now) c.other.view_is

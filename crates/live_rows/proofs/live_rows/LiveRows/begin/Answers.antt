@@ -1,11 +1,11 @@
 use Rattle.std.proofs.Common.{◌≡◌, ◌+◌, ◌<◌, ◌≤◌, ◌^◌, ◌∙◌, ◌++◌, ℕ, [], length, take, drop, sym, ap, subst, arith}
 use Rattle.expr_table.specs.Table.{has}
 use Rattle.bit_rows.specs.Sets.{members}
-use Rattle.live_rows.specs.Leaves.{roots_over}
+use Rattle.once_random.specs.Tuples.{roots_over}
 use Rattle.live_rows.specs.Marks.{mark_at, empty_mark, queued_count}
 use Rattle.live_rows.specs.Shown.{Shows}
 use Rattle.live_rows.specs.Spread.{rooted}
-use Rattle.live_rows.specs.State.{State, IsKept, IsRested}
+use Rattle.live_rows.specs.State.{State, IsState, IsRested}
 use Rattle.live_rows.proofs.Begun.{IsBegun, begun, written, none_looked}
 use Rattle.live_rows.proofs.Cleared.{rested_kept}
 use Rattle.live_rows.proofs.Marks.{queued_few}
@@ -34,7 +34,7 @@ invariant_of-self g c =
     let same : take c.self.inside.marks.len (c.offer_all.new.marks ++ drop (length c.offer_all.new.marks) items) ≡ c.offer_all.new.marks =
     written items c.offer_all.new.marks c.self.inside.marks.len (omega arith) (omega arith) in
     let few : length items < 2 ^ 32 = c.self.invariant.0.few in
-    subst (λ ms. IsKept (record { marks = ms; found = c.spread.new.found.numbers; alone = c.offer_all.new.alone.numbers })
+    subst (λ ms. IsState (record { marks = ms; found = c.spread.new.found.numbers; alone = c.offer_all.new.alone.numbers })
     × IsRested (length ms) c.spread.new.found c.offer_all.new.alone c.self.inside.lost c.self.inside.counted c.self.inside.leaves.items) (sym same) (
       record { few = omega arith; found = is.listed; queue = is.queue },
       rested_kept (length items) c.self.inside.found c.self.inside.alone c.self.inside.lost c.self.inside.counted c.self.inside.leaves.items c.self.invariant.1

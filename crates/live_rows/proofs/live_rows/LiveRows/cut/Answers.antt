@@ -1,11 +1,11 @@
 use Rattle.std.proofs.Common.{◌≡◌, ◌+◌, ◌<◌, ◌≤◌, ◌^◌, ◌∙◌, ◌∷◌, ◌++◌, [], length, take, drop, sym, ap, subst, arith}
 use Rattle.expr_table.specs.Table.{has, sides}
 use Rattle.once_random.proofs.Facts.{has_first, has_later}
-use Rattle.live_rows.specs.Lists.{Held, none_held, with_number}
+use Rattle.live_rows.specs.Lists.{Held, none_held, with_added}
 use Rattle.live_rows.specs.Losing.{marked_live}
 use Rattle.live_rows.specs.Marks.{mark_at, queued_count}
 use Rattle.live_rows.specs.Shown.{Shows}
-use Rattle.live_rows.specs.State.{State, IsKept, IsRested}
+use Rattle.live_rows.specs.State.{State, IsState, IsRested}
 use Rattle.live_rows.proofs.Begun.{written}
 use Rattle.live_rows.proofs.Cutting.{touched_in, cut_read, left_counted, found_live, cut_made, IsCutOnce}
 use Rattle.live_rows.proofs.Marks.{queued_few}
@@ -58,7 +58,7 @@ invariant_of-self g c =
     let few : length items < 2 ^ 32 = c.self.invariant.0.few in
     let rest = c.self.invariant.1 in
     let found_room : c.touch.new.found.room ≡ length c.drop_lost.new.marks = ap (λ (h : Held). h.room) c.touch.ensures.found ∙ rest.found_room ∙ sym rows in
-    subst (λ ms. IsKept (record { marks = ms; found = c.touch.new.found.numbers; alone = c.drop_lost.new.alone.numbers })
+    subst (λ ms. IsState (record { marks = ms; found = c.touch.new.found.numbers; alone = c.drop_lost.new.alone.numbers })
     × IsRested (length ms) c.touch.new.found c.drop_lost.new.alone c.drop_lost.new.lost c.self.inside.counted c.self.inside.leaves.items) (sym back) (
       record { few = omega arith; found = is.listed; queue = c.drop_lost.ensures.losing.queue },
       record {
@@ -87,11 +87,11 @@ returns g c =
     let rows : length c.drop_lost.new.marks ≡ length items = is.rows ∙ sym (ap length items_are) in
     let back : take c.self.inside.marks.len (c.drop_lost.new.marks ++ drop (length c.drop_lost.new.marks) items) ≡ c.drop_lost.new.marks =
     written items c.drop_lost.new.marks c.self.inside.marks.len (omega arith) (omega arith) in
-    let found : c.touch.new.found.numbers ≡ with_number c.self.inside.found.numbers c.args.row.0 = ap (λ (h : Held). h.numbers) c.touch.ensures.found in
+    let found : c.touch.new.found.numbers ≡ with_added c.self.inside.found.numbers c.args.row.0 = ap (λ (h : Held). h.numbers) c.touch.ensures.found in
     let alone : c.args.self.now.alone ≡ c.self.inside.alone.numbers = sym (ap (λ (s : State). s.alone) c.self.view_is) in
     record {
       shows = λ roots cuts shows. subst (Shows nodes roots (c.args.row.0 ∷ cuts)) (sym back) (is.shows roots cuts shows);
-      found = found ∙ ap (λ (s : State). with_number s.found c.args.row.0) c.self.view_is;
+      found = found ∙ ap (λ (s : State). with_added s.found c.args.row.0) c.self.view_is;
       kept_found = λ l. found
           ∙ found_live items c.self.inside.found.numbers c.self.invariant.0.found c.args.row.0 (ap (λ (s : State). (mark_at s.marks c.args.row.0).live) c.self.view_is ∙ l)
           ∙ ap (λ (s : State). s.found) c.self.view_is;

@@ -3,8 +3,7 @@ use Rattle.std.proofs.lemmas.List.{get_or_read}
 use Rattle.live_rows.specs.declared.mark.Mark.{Mark}
 use Rattle.live_rows.specs.Marks.{mark_at, empty_mark}
 use Rattle.live_rows.specs.State.{State}
-use Rattle.once_random.specs.Cutting.{live_parents}
-use Rattle.once_random.specs.Live.{is_live_parent}
+use Rattle.once_random.specs.Live.{is_live_parent, live_parents}
 use Rattle.live_rows.proofs.OnlyParent.{one_parent}
 use Rattle.live_rows.proofs.live_rows.LiveRows.only_parent.Goals as goal
 

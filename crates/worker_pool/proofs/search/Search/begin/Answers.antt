@@ -1,4 +1,4 @@
-use Rattle.std.proofs.Common.{◌≡◌, ◌∙◌, [], ◌++◌, ap, reverse}
+use Rattle.std.proofs.Common.{◌≡◌, ◌∙◌, ◌++◌, ap, reverse}
 use Rattle.std.proofs.lemmas.List.{append-nil}
 use Rattle.probe_family.specs.Roots.{roots_of}
 use Rattle.worker_pool.specs.declared.found.Found.TheVariants.{Closed}

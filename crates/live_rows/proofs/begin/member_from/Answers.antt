@@ -1,7 +1,0 @@
-use Rattle.std.proofs.Common.{sym, ap, ◌∙◌}
-use Rattle.bit_rows.proofs.Facts.{first_member-from}
-use Rattle.live_rows.specs.Leaves.{member_from}
-use Rattle.live_rows.proofs.begin.member_from.Goals as goal
-
-pub returns-then-start-eq0 : goal.returns-then-start-eq0
-returns-then-start-eq0 c = c.first.ensures ∙ (sym (first_member-from c.args.set.now) ∙ ap (member_from c.args.set.now) (sym c.if-start-eq0.true))

@@ -1,9 +1,0 @@
-use Rattle.once_random.proofs.Facts.{saturated_live}
-use Rattle.sim_rules.proofs.Decides.{saturated_decides}
-use Rattle.sim_rules.proofs.laws.saturated_chain_decides.Goals as goal
-
-pub returns-clause-live : goal.returns-clause-live
-returns-clause-live c nodes roots cuts lower within = saturated_live nodes lower roots within cuts
-
-pub returns-clause-provable : goal.returns-clause-provable
-returns-clause-provable c nodes groups roots cuts m lower within chain full = saturated_decides nodes groups roots lower within cuts chain full m
