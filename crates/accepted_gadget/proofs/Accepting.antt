@@ -12,7 +12,8 @@ use Rattle.expr_table.specs.declared.instance.Notion.TheVariants.{Probing}
 use Rattle.share_notes.specs.Causes.{role_causes}
 use Rattle.share_notes.specs.Roles.{roles_of}
 use Rattle.term_build.specs.TermInstance.{term_causes}
-use Rattle.accepted_netlist.specs.Netlist.{Netlist, IsNetlistOf, IsAcceptedAs, netlist_causes, tuple_causes}
+use Rattle.verify_question.specs.declared.question.Question.{Question}
+use Rattle.accepted_netlist.specs.Netlist.{Netlist, IsNetlistOf, IsAcceptedAs, netlist_causes, seen_causes, counted_causes, tuple_causes}
 use Rattle.rtlil_print.specs.Printed.{printed}
 use Rattle.gadget_maker.specs.Gadget.{all_items, gadget}
 use Rattle.gadget_maker.specs.Listed.{placed}
@@ -52,7 +53,11 @@ netlist seed d = record { items = gadget_items seed d; nets = nets_of (gadget_it
 few_roles : (seed d : ℕ) → 2 ≤ d → d ≤ 16 → HasFewInputs (roles_of (gadget_items seed d))
 few_roles seed d some few = subst HasFewInputs (sym (roles_are seed d few)) (few_inputs d some few)
 
-all_clear : (seed d t : ℕ) → 2 ≤ d → d ≤ 16 → t ≤ 2 → IsClear (netlist_causes Probing t Glitch (netlist seed d))
+-- what a trial asks
+abbrev pub tried : ℕ → Question
+tried t = record { notion = Probing; order = t; model = Glitch; timing = Settled }
+
+all_clear : (seed d t : ℕ) → 2 ≤ d → d ≤ 16 → t ≤ 2 → IsClear (netlist_causes (tried t) (netlist seed d))
 unfolding netlist_causes
 all_clear seed d t some few low =
     let items = gadget_items seed d in
@@ -63,24 +68,20 @@ all_clear seed d t some few low =
     let inputs = few_roles seed d some few in
     let small = few_cells d (steps d) items is in
     let n = length (probe_list Glitch roles circuit) in
-    both_clear (role_causes items nets)
-    (level_causes roles Settled nets ++ (probe_causes Glitch roles circuit ++ (tuple_causes n t ++ term_causes Probing roles circuit)))
-    (notes_clear seed d some few)
-    (both_clear (level_causes roles Settled nets) (probe_causes Glitch roles circuit ++ (tuple_causes n t ++ term_causes Probing roles circuit))
-    (levels_clear d (steps d) items is roles)
-    (both_clear (probe_causes Glitch roles circuit) (tuple_causes n t ++ term_causes Probing roles circuit) (probes_clear roles nets inputs small)
+    both_clear (seen_causes (tried t) (netlist seed d)) (counted_causes (tried t) (netlist seed d))
+    (both_clear (role_causes items nets) (level_causes roles Settled nets ++ probe_causes Glitch roles circuit) (notes_clear seed d some few)
+    (both_clear (level_causes roles Settled nets) (probe_causes Glitch roles circuit) (levels_clear d (steps d) items is roles)
+    (probes_clear roles nets inputs small)))
     (both_clear (tuple_causes n t) (term_causes Probing roles circuit) (tuples_clear n t (few_probes roles nets inputs small) low)
-    (terms_clear roles nets inputs small))))
+    (terms_clear roles nets inputs small))
 
 is_netlist : (seed d : ℕ) → 2 ≤ d → d ≤ 16 → IsNetlistOf (printed (gadget seed d)) (netlist seed d)
 is_netlist seed d some few =
     let built = accepted d (steps d) (gadget_items seed d) (is_gadget seed d some few) in record {
       tree = gadget seed d;
       tree_is = record { short = short_text seed d some few; stands = stands seed d few; top = has_top seed d };
-      items = sym (items_are seed d);
-      nets = built.nets;
-      clear = built.clear;
+      made = record { items = sym (items_are seed d); nets = built.nets; clear = built.clear };
     }
 
-pub accepts : (seed d t : ℕ) → 2 ≤ d → d ≤ 16 → t ≤ 2 → (n : Netlist) × IsAcceptedAs Probing t Glitch (printed (gadget seed d)) n
+pub accepts : (seed d t : ℕ) → 2 ≤ d → d ≤ 16 → t ≤ 2 → (n : Netlist) × IsAcceptedAs (tried t) (printed (gadget seed d)) n
 accepts seed d t some few low = (netlist seed d, record { netlist = is_netlist seed d some few; clear = all_clear seed d t some few low })

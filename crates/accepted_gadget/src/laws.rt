@@ -3,6 +3,7 @@
 ghost use Rattle.std.specs.Prelude.{ℕ, ◌≡◌, ◌<◌, ◌≤◌, ◌-◌, ◌^◌, min};
 ghost use Rattle.accepted_netlist.specs.Netlist.{Netlist, IsAcceptedAs};
 ghost use Rattle.circuit_types.specs.declared.nets.Nets.{Nets as AnyNets};
+ghost use Rattle.circuit_types.specs.declared.circuit.Timing.TheVariants.{Settled};
 ghost use Rattle.circuit_types.specs.declared.probes.Model.TheVariants.{Glitch};
 ghost use Rattle.circuit_types.specs.Items.{top_items};
 ghost use Rattle.expr_table.specs.declared.instance.Notion.TheVariants.{Probing};
@@ -16,8 +17,9 @@ pub fn gadgets_build()
 {}
 
 /// The text of each gadget of 2 to 16 shares is accepted as it is tried: for probing security with glitches, against two
-/// probes, or one where there are two shares. So no refusal is due for it.
+/// probes, or one where there are two shares, once all is settled. So no refusal is due for it.
 pub fn gadgets_are_accepted()
     ensures { (seed d : ℕ) → seed < 2 ^ 64 → 2 ≤ d → d ≤ 16
-        → (n : Netlist) × IsAcceptedAs Probing (min (d - 1) 2) Glitch (printed (gadget seed d)) n }
+        → (n : Netlist) × IsAcceptedAs (record { notion = Probing; order = min (d - 1) 2; model = Glitch; timing = Settled })
+        (printed (gadget seed d)) n }
 {}

@@ -1,3 +1,4 @@
 pub mod Netlist
 pub mod Known
+pub mod Seen
 pub mod Laws

@@ -1,22 +1,22 @@
-//! The steps from the bytes of a netlist to its instance.
+//! From the bytes of a netlist to its tree, and from what is seen of that to its instance.
 
-ghost use Rattle.std.specs.Prelude.{◌≤◌, length, IfOk, IfErr};
+ghost use Rattle.std.specs.Prelude.{◌≤◌, length, IfOk, IfErr, IsSome};
 ghost use Rattle.rtlil_lex.specs.Tokens.{most_bytes};
 ghost use Rattle.circuit_types.specs.Causes.{IsRefusal};
-ghost use Rattle.accepted_netlist.specs.Netlist.{HasRefusal};
-ghost use Rattle.accepted_netlist.specs.Known.{IsKept, Keeps};
+ghost use Rattle.circuit_types.specs.Top.{top_of};
+ghost use Rattle.verify_question.specs.Asking.{IsAsked};
+ghost use Rattle.accepted_netlist.specs.Netlist.{HasRefusal, IsRefusedTree};
+ghost use Rattle.accepted_netlist.specs.Known.{IsKept, Keeps, KeepsTree};
 
 use crate::counting::tuple_counts;
-use circuit_types::{Circuit, Model, Probes, Stop, Timing};
-use expr_table::{Instance, Notion};
-use glitch_cone::probes;
-use level_unroll::levels;
-use net_build::build;
+use crate::seeing::{Seen, see};
+use circuit_types::{Circuit, Probes, Stop, Tree};
+use expr_table::Instance;
 use rtlil_tree::read_tree;
-use share_notes::roles;
 use std::alloc::Global;
 use term_build::instance;
 use tuple_rank::Binomials;
+use verify_question::Question;
 
 /// What is known of a netlist that is accepted.
 #[derive(Drop)]
@@ -28,33 +28,45 @@ pub struct Accepted {
     pub instance: Instance,
 }
 
-/// The netlist whose text the bytes are, or the refusal that is due.
-pub fn accept(
-    alloc: Global,
-    bytes: &[u8],
-    notion: Notion,
-    order: u32,
-    model: Model,
-) -> Result<Accepted, Stop>
-    requires short { length bytes.now ≤ most_bytes }
-    requires some { 1 ≤ order }
-    requires few { order ≤ 8 }
-    ensures accepted { IfOk result (Keeps notion order model bytes.now) }
-    ensures known { IfOk result (IsKept order) }
-    ensures refused { IfErr result (IsRefusal (HasRefusal notion order model bytes.now)) }
+/// The netlist of a tree, or the refusal that is due.
+fn accept_tree(alloc: Global, tree: &Tree<'_>, question: Question) -> Result<Accepted, Stop>
+    requires top { IsSome (top_of tree.now) }
+    requires asked { IsAsked question }
+    ensures accepted { IfOk result (KeepsTree question tree.now) }
+    ensures known { IfOk result (IsKept question.order) }
+    ensures refused { IfErr result (IsRefusal (IsRefusedTree question tree.now)) }
 {
-    let tree = read_tree(alloc, bytes)?;
-    let nets = build(alloc, &tree)?;
-    let roles = roles(alloc, &tree, &nets)?;
-    let circuit = levels(alloc, nets, &roles, Timing::Settled)?;
-    let probes = probes(alloc, &circuit, &roles, model)?;
-    let listed = probes.list.as_slice();
-    let counts = tuple_counts(alloc, listed.len() as u32, order)?;
-    let instance = instance(alloc, &circuit, &roles, &probes, notion)?;
+    let seen = see(alloc, tree, question)?;
+    let listed = seen.probes.list.as_slice();
+    let counts = tuple_counts(alloc, listed.len() as u32, question.order)?;
+    let instance = instance(
+        alloc,
+        &seen.circuit,
+        &seen.roles,
+        &seen.probes,
+        question.notion,
+    )?;
+    let Seen {
+        circuit,
+        probes,
+        ..
+    } = seen;
     Ok(Accepted {
         circuit,
         probes,
         counts,
         instance,
     })
+}
+
+/// The netlist whose text the bytes are, or the refusal that is due.
+pub fn accept(alloc: Global, bytes: &[u8], question: Question) -> Result<Accepted, Stop>
+    requires short { length bytes.now ≤ most_bytes }
+    requires asked { IsAsked question }
+    ensures accepted { IfOk result (Keeps question bytes.now) }
+    ensures known { IfOk result (IsKept question.order) }
+    ensures refused { IfErr result (IsRefusal (HasRefusal question bytes.now)) }
+{
+    let tree = read_tree(alloc, bytes)?;
+    accept_tree(alloc, &tree, question)
 }

@@ -25,8 +25,6 @@ mod hull;
 mod laws;
 mod state;
 mod taking;
-#[cfg(test)]
-mod tests;
 mod tree_entries;
 
 pub use certificate::Why;

@@ -34,6 +34,3 @@ pub use reading::read;
 pub use sequences::NoMemory;
 pub use words::{model_word, notion_word};
 pub use writing::write;
-
-#[cfg(test)]
-mod tests;

@@ -5,9 +5,9 @@ use Rattle.expr_table.specs.declared.instance.Notion.{Notion}
 use Rattle.expr_table.specs.declared.instance.Notion.TheVariants.{Probing, Ni, Sni}
 use Rattle.circuit_types.specs.declared.probes.Model.{Model}
 use Rattle.circuit_types.specs.declared.probes.Model.TheVariants.{Value, Glitch}
-use Rattle.command_words.specs.declared.command.Question.{Question}
+use Rattle.verify_question.specs.declared.question.Question.{Question}
 use Rattle.command_words.specs.declared.command.Gadget.{Gadget}
-use Rattle.command_words.specs.Names.{notion_word, model_word}
+use Rattle.verify_question.specs.Words.{notion_word, model_word}
 use Rattle.command_words.specs.Numbers.{IsNumber}
 use Rattle.command_words.specs.Parts.{Part, Found, found_in}
 use Rattle.command_words.specs.Commands.{VerifyRequest, CheckRequest, Request, verify, check, generate, trial, AsksQuestion, IsWorkers, IsSchedule, AsksVerify, IsVerify, IsCheck, IsGadget, command_word, AsksFor, Means}
@@ -41,13 +41,15 @@ one-question n o m a b p q =
     let notion : a.notion ≡ b.notion = one-notion a.notion b.notion (ap letter (sym p.notion_is ∙ q.notion_is)) in
     let order : a.order ≡ b.order = p.order_is.value ∙ sym q.order_is.value in
     let model : a.model ≡ b.model = one-model a.model b.model (ap letter (sym p.model_is ∙ q.model_is)) in
-    λ i. record { notion = notion i; order = order i; model = model i }
+    let timing : a.timing ≡ b.timing = p.timing_is ∙ sym q.timing_is in
+    λ i. record { notion = notion i; order = order i; model = model i; timing = timing i }
 
 pub moved : (n o m n' o' m' : List ℕ) (a : Question) → n ≡ n' → o ≡ o' → m ≡ m' → AsksQuestion n o m a → AsksQuestion n' o' m' a
 moved n o m n' o' m' a en eo em h = record {
   notion_is = sym en ∙ h.notion_is;
   order_is = subst (λ (w : List ℕ). IsNumber 1 8 w a.order) eo h.order_is;
   model_is = sym em ∙ h.model_is;
+  timing_is = h.timing_is;
 }
 
 one-workers : (values : List (List ℕ)) (a b : ℕ) → IsWorkers values a → IsWorkers values b → a ≡ b

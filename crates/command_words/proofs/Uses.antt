@@ -1,14 +1,14 @@
 -- From the words behind a command's name to what they ask, and back.
-use Rattle.std.proofs.Common.{◌≡◌, ℕ, ◌<◌, ◌≤◌, Bool, true, false, eqb, List, [], ◌∷◌, length, get_or, Option, Some, None, sym, ap, ◌∙◌, subst, arith}
+use Rattle.std.proofs.Common.{◌≡◌, ℕ, ◌<◌, ◌≤◌, true, eqb, List, [], ◌∷◌, length, get_or, Option, Some, None, sym, ap, ◌∙◌, subst, arith}
 use Rattle.std.specs.Prelude.{IfSome, IfNone}
 use Rattle.std.specs.Cmp.Lexicographic.{pointwise}
 use Rattle.std.proofs.lemmas.Slice.Eq.{bytes_eq-Decides}
 use Rattle.std.specs.Option.{option_to_list}
 use Rattle.command_words.specs.declared.command.Gadget.{Gadget}
 use Rattle.command_words.specs.Numbers.{IsNumber}
-use Rattle.command_words.specs.Parts.{Part, Found, ArePlain, IsPlain, IsWithin, found_in, written}
+use Rattle.command_words.specs.Parts.{Part, Found, ArePlain, IsPlain, GivesFew, found_in, written}
 use Rattle.command_words.specs.Reading.{HasRead}
-use Rattle.command_words.specs.Commands.{VerifyRequest, CheckRequest, Request, Means, IsWorkers, IsSchedule, AsksVerify, IsVerify, AsksCheck, IsCheck, AsksGadget, IsGadget}
+use Rattle.command_words.specs.Commands.{VerifyRequest, CheckRequest, IsWorkers, IsSchedule, AsksVerify, IsVerify, AsksCheck, IsCheck, AsksGadget, IsGadget}
 use Rattle.command_words.proofs.Written.{same-head, one-reading, at-end}
 use Rattle.command_words.proofs.One.{moved, same-four, same-fifth}
 
@@ -39,7 +39,7 @@ few-files : (values : List (List ℕ)) (file : Option (List ℕ)) → values ≡
 few-files values None e = let size : length values ≡ 0 = ap length e in omega arith
 few-files values (Some x) e = let size : length values ≡ 1 = ap length e in omega arith
 
-pub asks-within : (found : Found) (request : VerifyRequest) → AsksVerify found request → IsWithin found
+pub asks-within : (found : Found) (request : VerifyRequest) → AsksVerify found request → GivesFew found
 asks-within found request a =
     let four : length found.operands ≡ 4 = ap length a.operands_are in
     record {
@@ -50,7 +50,7 @@ asks-within found request a =
     }
 
 -- `verify`
-pub no-verify : (words : List (List ℕ)) → ((parts : List Part) → words ≡ written parts → ArePlain parts → IsWithin (found_in parts) → ⊥)
+pub no-verify : (words : List (List ℕ)) → ((parts : List Part) → words ≡ written parts → ArePlain parts → GivesFew (found_in parts) → ⊥)
     → (request : VerifyRequest) → IsVerify words request → ⊥
 no-verify words none request v = none v.parts v.words_are v.plain (asks-within (found_in v.parts) request v.asks)
 

@@ -4,12 +4,12 @@ use Rattle.std.proofs.lemmas.List.{append-nil, append_cancel_left}
 use Rattle.command_words.specs.declared.names.OptionName.{OptionName}
 use Rattle.command_words.specs.declared.names.OptionName.TheVariants.{Workers, Certificate, Schedule}
 use Rattle.command_words.specs.Names.{option_word, texts}
-use Rattle.command_words.specs.Parts.{Part, operand, separate, joined, words_of, written, IsPlain, IsPlainPart, ArePlain, Found, nothing, join, found_part, found_in, IsWithin}
+use Rattle.command_words.specs.Parts.{Part, operand, separate, joined, words_of, written, IsPlain, IsPlainPart, ArePlain, Found, nothing, join, found_part, found_in, GivesFew}
 use Rattle.std.specs.Prelude.{string_bytes}
 use Rattle.std.specs.declared.string.String.{String}
 use Rattle.std.specs.declared.alloc.Global.{Global}
 use Rattle.command_words.specs.declared.parts.Argument.{Argument}
-use Rattle.command_words.specs.Reading.{BeginsWith, HasRead, found_by}
+use Rattle.command_words.specs.Reading.{BeginsWithPart, HasRead, found_by}
 
 -- what is found, joined
 pub join_assoc : (a b c : Found) → join (join a b) c ≡ join a (join b c)
@@ -46,7 +46,7 @@ plain-snoc (q ∷ qs) p all one = (all.0, plain-snoc qs p all.1 one)
 length-front : (a b : List (List ℕ)) (n : ℕ) → length (a ++ b) ≤ n → length a ≤ n
 length-front a b n h = omega (arith, length-append a b)
 
-pub within-front : (a b : Found) → IsWithin (join a b) → IsWithin a
+pub within-front : (a b : Found) → GivesFew (join a b) → GivesFew a
 within-front a b w = record {
   operands_few = length-front a.operands b.operands 4 w.operands_few;
   workers_once = length-front a.workers b.workers 1 w.workers_once;
@@ -219,34 +219,34 @@ stuck words found first tail r none parts e plain =
 
 -- where the next part gives too much, so do all parts
 pub too-much : (words rest behind : List (List ℕ)) (found : Found) (part : Part) → HasRead words found rest → IsPlainPart part → rest ≡ words_of part ++ behind
-    → (IsWithin (join found (found_part part)) → ⊥)
-    → (parts : List Part) → words ≡ written parts → ArePlain parts → IsWithin (found_in parts) → ⊥
+    → (GivesFew (join found (found_part part)) → ⊥)
+    → (parts : List Part) → words ≡ written parts → ArePlain parts → GivesFew (found_in parts) → ⊥
 too-much words rest behind found part r plain e over parts is all within =
     let next = reads-on words rest behind found part r plain e in
     let b = reads-back next.parts parts behind next.plain all (sym next.words_are ∙ is) in
     let sum : found_in parts ≡ join (found_in next.parts) (found_in b.more) = ap found_in b.parts_are ∙ found-append next.parts b.more in
-    over (subst IsWithin next.gives (within-front (found_in next.parts) (found_in b.more) (subst IsWithin sum within)))
+    over (subst GivesFew next.gives (within-front (found_in next.parts) (found_in b.more) (subst GivesFew sum within)))
 
 -- at the end
 pub at-end : (words : List (List ℕ)) (found : Found) (r : HasRead words found []) → words ≡ written r.parts
 at-end words found r = r.words_are ∙ append-nil (written r.parts)
 
 -- the same by what the reader holds
-pub read_one : (words rest behind : List (List ℕ)) (found more : Found) (argument : Argument) → HasRead words found rest → BeginsWith rest argument behind
+pub read_one : (words rest behind : List (List ℕ)) (found more : Found) (argument : Argument) → HasRead words found rest → BeginsWithPart rest argument behind
     → join found (found_by argument) ≡ more → HasRead words more behind
 read_one words rest behind found more argument h b e =
     let r = reads-on words rest behind found b.part h b.plain b.words_are in
     record { parts = r.parts; plain = r.plain; words_are = r.words_are; gives = r.gives ∙ ap (join found) b.gives ∙ e }
 
-pub read_too_much : (words rest behind : List (List ℕ)) (found : Found) (argument : Argument) → HasRead words found rest → BeginsWith rest argument behind
-    → (IsWithin (join found (found_by argument)) → ⊥)
-    → (parts : List Part) → words ≡ written parts → ArePlain parts → IsWithin (found_in parts) → ⊥
+pub read_too_much : (words rest behind : List (List ℕ)) (found : Found) (argument : Argument) → HasRead words found rest → BeginsWithPart rest argument behind
+    → (GivesFew (join found (found_by argument)) → ⊥)
+    → (parts : List Part) → words ≡ written parts → ArePlain parts → GivesFew (found_in parts) → ⊥
 read_too_much words rest behind found argument h b over =
     too-much words rest behind found b.part h b.plain b.words_are
-    (λ w. over (subst (λ (f : Found). IsWithin (join found f)) b.gives w))
+    (λ w. over (subst (λ (f : Found). GivesFew (join found f)) b.gives w))
 
 pub read_stuck : (words : List (List ℕ)) (found : Found) (rest : List (String Global)) → HasRead words found (texts rest) → 0 < length rest → NoPart (texts rest)
-    → (parts : List Part) → words ≡ written parts → ArePlain parts → IsWithin (found_in parts) → ⊥
+    → (parts : List Part) → words ≡ written parts → ArePlain parts → GivesFew (found_in parts) → ⊥
 read_stuck words found [] h some none parts e plain within = absurd (omega arith)
 read_stuck words found (x ∷ xs) h some none parts e plain within = stuck words found (string_bytes x) (texts xs) h none parts e plain
 

@@ -1,17 +1,18 @@
 -- What words ask.
 use Rattle.std.specs.Prelude.{ℕ, ◌≡◌, ◌≢◌, ◌-◌, ◌^◌, List, [], ◌∷◌, codes, Option, Some, None}
 use Rattle.std.specs.Option.{option_copied, option_to_list}
-use Rattle.command_words.specs.declared.command.Question.{Question}
+use Rattle.circuit_types.specs.declared.circuit.Timing.TheVariants.{Settled}
+use Rattle.verify_question.specs.declared.question.Question.{Question}
+use Rattle.verify_question.specs.Words.{notion_word, model_word}
 use Rattle.command_words.specs.declared.command.Verification.{Verification}
 use Rattle.command_words.specs.declared.command.Checking.{Checking}
 use Rattle.command_words.specs.declared.command.Gadget.{Gadget}
 use Rattle.command_words.specs.declared.command.Command.{Command}
 use Rattle.command_words.specs.declared.command.Command.TheVariants.{Verify, Check, Generate, Trial}
-use Rattle.command_words.specs.Names.{notion_word, model_word}
 use Rattle.command_words.specs.Numbers.{IsNumber}
 use Rattle.command_words.specs.Parts.{Part, Found, ArePlain, IsPlain, found_in, written}
 
--- A command, with its file names as lists of bytes.
+-- What words ask of `verify`, with the names of files as lists of bytes.
 pub record VerifyRequest : Type 0 where
   pub question : Question
   pub netlist : List ℕ
@@ -19,17 +20,20 @@ pub record VerifyRequest : Type 0 where
   pub certificate : Option (List ℕ)
   pub schedule : Option ℕ
 
+-- what words ask of `check`
 pub record CheckRequest : Type 0 where
   pub question : Question
   pub netlist : List ℕ
   pub certificate : List ℕ
 
+-- what words ask of the program: a command and what it is to do
 pub data Request : Type 0 where
   verify : VerifyRequest → Request
   check : CheckRequest → Request
   generate : Gadget → Request
   trial : Gadget → Request
 
+-- the request that a value of the code is: with the names of files as lists of bytes
 abbrev pub verify_request : Verification → VerifyRequest
 verify_request v = record {
   question = v.question;
@@ -39,20 +43,23 @@ verify_request v = record {
   schedule = v.schedule;
 }
 
+-- the same of what is asked of `check`
 abbrev pub check_request : Checking → CheckRequest
 check_request c = record { question = c.question; netlist = c.netlist.now; certificate = c.certificate.now }
 
+-- the same of a whole command
 abbrev pub request_of : Command → Request
 request_of (Verify v) = verify (verify_request v)
 request_of (Check c) = check (check_request c)
 request_of (Generate g) = generate g
 request_of (Trial g) = trial g
 
--- The words for a notion, an order from 1 to 8 and a model.
+-- The words for a notion, an order from 1 to 8 and a model, where all is settled.
 pub record AsksQuestion (notion order model : List ℕ) (question : Question) : Type 0 where
   pub notion_is : notion ≡ notion_word question.notion
   pub order_is : IsNumber 1 8 order question.order
   pub model_is : model ≡ model_word question.model
+  pub timing_is : question.timing ≡ Settled
 
 -- The number of workers, 1 to 64, by the values that `--workers` has: 1 where it has none.
 abbrev pub IsWorkers : List (List ℕ) → ℕ → Type 0
@@ -95,6 +102,7 @@ pub record AsksCheck (notion order model netlist certificate : List ℕ) (reques
   pub certificate_plain : IsPlain certificate
   pub two_files : certificate ≢ netlist
 
+-- The words ask `check` for the request.
 pub record IsCheck (words : List (List ℕ)) (request : CheckRequest) : Type 0 where
   pub notion : List ℕ
   pub order : List ℕ
@@ -109,6 +117,7 @@ pub record AsksGadget (seed shares : List ℕ) (gadget : Gadget) : Type 0 where
   pub seed_is : IsNumber 0 (2 ^ 64 - 1) seed gadget.seed
   pub shares_is : IsNumber 2 16 shares gadget.shares
 
+-- The words ask for the gadget.
 pub record IsGadget (words : List (List ℕ)) (gadget : Gadget) : Type 0 where
   pub seed : List ℕ
   pub shares : List ℕ

@@ -29,13 +29,13 @@ found_by (argument.Word word) = an_operand word.now
 found_by (argument.Value name value) = a_value name value.now
 
 -- The words begin with a part that gives the argument, and go on behind it.
-pub record BeginsWith (words : List (List ℕ)) (argument : Argument) (behind : List (List ℕ)) : Type 0 where
+pub record BeginsWithPart (words : List (List ℕ)) (argument : Argument) (behind : List (List ℕ)) : Type 0 where
   pub part : Part
   pub plain : IsPlainPart part
   pub words_are : words ≡ words_of part ++ behind
   pub gives : found_part part ≡ found_by argument
 
--- the operands, and all that is given
+-- the words that the operands are
 abbrev pub operand_words : Operands → List (List ℕ)
 operand_words Empty = []
 operand_words (One a) = a.now ∷ []
@@ -43,6 +43,7 @@ operand_words (Two a b) = a.now ∷ b.now ∷ []
 operand_words (Three a b c) = a.now ∷ b.now ∷ c.now ∷ []
 operand_words (Four a b c d) = a.now ∷ b.now ∷ c.now ∷ d.now ∷ []
 
+-- all that is given
 abbrev pub found_of : Given → Found
 found_of given = record {
   operands = operand_words given.operands;

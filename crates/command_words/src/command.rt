@@ -1,16 +1,6 @@
 //! What words may ask.
 
-use circuit_types::Model;
-use expr_table::Notion;
-
-/// What is asked of a netlist.
-#[derive(Clone, Copy)]
-pub struct Question {
-    pub notion: Notion,
-    /// The most probes of a tuple, 1 to 8.
-    pub order: u32,
-    pub model: Model,
-}
+use verify_question::Question;
 
 /// A netlist is to be verified.
 #[derive(Clone, Copy)]

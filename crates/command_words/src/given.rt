@@ -1,7 +1,7 @@
 //! The arguments that words give, up to four operands and each option once.
 
 ghost use Rattle.std.specs.Prelude.{◌≡◌, ◌++◌, ◌∷◌, [], IfSome, IfNone, length};
-ghost use Rattle.command_words.specs.Parts.{IsWithin, a_value, join, nothing};
+ghost use Rattle.command_words.specs.Parts.{GivesFew, a_value, join, nothing};
 ghost use Rattle.command_words.specs.Reading.{found_by, found_of, operand_words};
 
 use crate::names::OptionName;
@@ -59,7 +59,7 @@ impl<'a> Given<'a> {
     /// This with one more argument, unless it is an operand too many or an option once more.
     pub fn and(self, argument: Argument<'a>) -> Option<Given<'a>>
         ensures more { IfSome result (λ given. join (found_of self.entry) (found_by argument.entry) ≡ found_of given) }
-        ensures over { IfNone result (IsWithin (join (found_of self.entry) (found_by argument.entry)) → ⊥) }
+        ensures over { IfNone result (GivesFew (join (found_of self.entry) (found_by argument.entry)) → ⊥) }
     {
         match argument {
             Argument::Word(word) => {
@@ -72,7 +72,7 @@ impl<'a> Given<'a> {
 
     fn and_value(self, name: OptionName, value: &'a str) -> Option<Given<'a>>
         ensures more { IfSome result (λ given. join (found_of self.entry) (a_value name value.entry.now) ≡ found_of given) }
-        ensures over { IfNone result (IsWithin (join (found_of self.entry) (a_value name value.entry.now)) → ⊥) }
+        ensures over { IfNone result (GivesFew (join (found_of self.entry) (a_value name value.entry.now)) → ⊥) }
     {
         match name {
             OptionName::Workers => match self.workers {

@@ -16,10 +16,8 @@ mod operands;
 mod options;
 mod parts;
 mod read;
-#[cfg(test)]
-mod tests;
 
-pub use command::{Checking, Command, Gadget, Question, Verification};
+pub use command::{Checking, Command, Gadget, Verification};
 pub use laws::one_command;
-pub use names::{OptionName, model_word, notion_word, option_word};
+pub use names::{OptionName, option_word};
 pub use read::read_words;

@@ -1,9 +1,10 @@
-//! The words for notions, models and options.
+//! The words for options, and which notions and models words are for.
 
 ghost use Rattle.std.specs.Prelude.{◌≡◌, ◌≢◌, IfSome, IfNone};
 ghost use Rattle.expr_table.specs.declared.instance.Notion.{Notion as AnyNotion};
 ghost use Rattle.circuit_types.specs.declared.probes.Model.{Model as AnyModel};
-ghost use Rattle.command_words.specs.Names.{model_word, notion_word, option_word};
+ghost use Rattle.command_words.specs.Names.{option_word};
+ghost use Rattle.verify_question.specs.Words.{model_word, notion_word};
 
 use circuit_types::Model;
 use expr_table::Notion;
@@ -17,27 +18,6 @@ pub enum OptionName {
     Certificate,
     /// The seed of a schedule.
     Schedule,
-}
-
-/// The word for a notion.
-pub fn notion_word(notion: Notion) -> &'static str
-    ensures { result.now ≡ notion_word notion }
-{
-    match notion {
-        Notion::Probing => "probing",
-        Notion::Ni => "ni",
-        Notion::Sni => "sni",
-    }
-}
-
-/// The word for a model.
-pub fn model_word(model: Model) -> &'static str
-    ensures { result.now ≡ model_word model }
-{
-    match model {
-        Model::Value => "value",
-        Model::Glitch => "glitch",
-    }
 }
 
 /// The name of an option, as words have it.

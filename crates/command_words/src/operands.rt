@@ -1,14 +1,16 @@
 //! Operands, and what they ask.
 
 ghost use Rattle.std.specs.Prelude.{◌≡◌, IfSome, IfNone, MatchOption};
-ghost use Rattle.command_words.specs.declared.command.Question.{Question as AnyQuestion};
+ghost use Rattle.verify_question.specs.declared.question.Question.{Question as AnyQuestion};
 ghost use Rattle.command_words.specs.declared.command.Gadget.{Gadget as AnyGadget};
 ghost use Rattle.command_words.specs.Commands.{AsksCheck, AsksGadget, AsksQuestion, CheckRequest, check_request};
 ghost use Rattle.command_words.specs.Parts.{IsPlain};
 
-use crate::command::{Checking, Gadget, Question};
+use crate::command::{Checking, Gadget};
 use crate::names::{model_named, notion_named};
 use crate::number::number;
+use circuit_types::Timing;
+use verify_question::Question;
 
 /// A text that is not empty and does not begin with `-`.
 pub fn plain(text: &str) -> Option<&str>
@@ -37,6 +39,7 @@ pub fn question_asked(notion: &str, order: &str, model: &str) -> Option<Question
         notion,
         order: order as u32,
         model,
+        timing: Timing::Settled,
     })
 }
 

@@ -3,7 +3,7 @@
 ghost use Rattle.std.specs.Prelude.{◌≡◌, ◌≤◌, ◌<◌, ℕ, List, ◌∷◌, ◌++◌, IfSome, IfNone, length};
 ghost use Rattle.command_words.specs.Names.{texts};
 ghost use Rattle.command_words.specs.Parts.{Part, IsPlainPart, words_of};
-ghost use Rattle.command_words.specs.Reading.{BeginsWith, IsForm, LacksName};
+ghost use Rattle.command_words.specs.Reading.{BeginsWithPart, IsForm, LacksName};
 
 use crate::names::{OptionName, option_word};
 use crate::operands::plain;
@@ -57,7 +57,7 @@ fn form_of(word: &str) -> Form<'_>
 
 /// The part that the first word begins, and the words behind that.
 fn part_from<'a>(first: &'a str, tail: &'a [String]) -> Option<(Argument<'a>, &'a [String])>
-    ensures begins { IfSome result (λ r. BeginsWith (first.entry.now ∷ texts tail.entry.now) r.0 (texts r.1.now)) }
+    ensures begins { IfSome result (λ r. BeginsWithPart (first.entry.now ∷ texts tail.entry.now) r.0 (texts r.1.now)) }
     ensures shorter { IfSome result (λ r. length r.1.now ≤ length tail.entry.now) }
     ensures other { IfNone result ((part : Part) (behind : List (List ℕ)) → IsPlainPart part
         → first.entry.now ∷ texts tail.entry.now ≡ words_of part ++ behind → ⊥) }
@@ -81,7 +81,7 @@ fn part_from<'a>(first: &'a str, tail: &'a [String]) -> Option<(Argument<'a>, &'
 
 /// What the words begin with, and the words behind that.
 pub fn first_part<'a>(words: &'a [String]) -> Option<(Argument<'a>, &'a [String])>
-    ensures begins { IfSome result (λ r. BeginsWith (texts words.entry.now) r.0 (texts r.1.now)) }
+    ensures begins { IfSome result (λ r. BeginsWithPart (texts words.entry.now) r.0 (texts r.1.now)) }
     ensures shorter { IfSome result (λ r. length r.1.now < length words.entry.now) }
     ensures other { IfNone result ((part : Part) (behind : List (List ℕ)) → IsPlainPart part
         → texts words.entry.now ≡ words_of part ++ behind → ⊥) }

@@ -3,7 +3,7 @@
 ghost use Rattle.std.specs.Prelude.{◌≡◌, List, [], ◌∷◌, IfSome, IfNone};
 ghost use Rattle.command_words.specs.declared.command.Gadget.{Gadget as AnyGadget};
 ghost use Rattle.command_words.specs.Names.{texts};
-ghost use Rattle.command_words.specs.Parts.{Part, ArePlain, IsWithin, found_in, written};
+ghost use Rattle.command_words.specs.Parts.{Part, ArePlain, GivesFew, found_in, written};
 ghost use Rattle.command_words.specs.Reading.{HasRead, found_of};
 ghost use Rattle.command_words.specs.Commands.{CheckRequest, IsCheck, IsGadget, IsVerify, Means, Request, VerifyRequest};
 ghost use Rattle.command_words.specs.Commands.{check_request, request_of, verify_request};
@@ -18,7 +18,7 @@ use crate::parts::first_part;
 fn read_arguments(words: &[String]) -> Option<Given<'_>>
     ensures read { IfSome result (λ given. HasRead (texts words.now) (found_of given) []) }
     ensures other { IfNone result ((parts : List Part) → texts words.now ≡ written parts → ArePlain parts
-        → IsWithin (found_in parts) → ⊥) }
+        → GivesFew (found_in parts) → ⊥) }
 {
     let mut given = Given::new();
     let mut rest = words;

@@ -1,8 +1,11 @@
 -- What words that mean a request say of it.
-use Rattle.std.proofs.Common.{◌≡◌, ◌≤◌, ◌<◌, ◌^◌, ℕ, List, [], ◌∷◌, arith}
+use Rattle.std.proofs.Common.{◌≡◌, ◌≤◌, ◌<◌, ◌^◌, ℕ, List, [], ◌∷◌, sym, subst, arith}
+use Rattle.circuit_types.specs.Order.{IsTiming}
+use Rattle.verify_question.specs.declared.question.Question.{Question}
+use Rattle.verify_question.specs.Asking.{IsAsked}
 use Rattle.command_words.specs.declared.command.Gadget.{Gadget}
 use Rattle.command_words.specs.Parts.{found_in}
-use Rattle.command_words.specs.Commands.{Request, VerifyRequest, CheckRequest, IsCheck, IsGadget, IsVerify, IsWorkers, Means, verify, check, generate, trial}
+use Rattle.command_words.specs.Commands.{Request, VerifyRequest, CheckRequest, AsksQuestion, IsCheck, IsGadget, IsVerify, IsWorkers, Means, verify, check, generate, trial}
 
 -- words mean at most one request
 abbrev pub OneCommand : Type 0
@@ -14,34 +17,34 @@ workers-some [] workers h = let one : workers ≡ 1 = h in omega arith
 workers-some (value ∷ []) workers h = h.at_least
 workers-some (value ∷ other ∷ more) workers h = absurd h
 
+-- words for a question ask one
+asked-question : (notion order model : List ℕ) (question : Question) → AsksQuestion notion order model question → IsAsked question
+asked-question notion order model question h = record {
+  least = h.order_is.at_least;
+  most = h.order_is.at_most;
+  timing = subst IsTiming (sym h.timing_is) tt;
+}
+
 -- what is asked to be verified is within its limits
 pub record IsModest (asked : VerifyRequest) : Type 0 where
-  pub least : 1 ≤ asked.question.order
-  pub most : asked.question.order ≤ 8
+  pub question : IsAsked asked.question
   pub crew : 1 ≤ asked.workers
 
 pub modest : (words : List (List ℕ)) (asked : VerifyRequest) → Means words (verify asked) → IsModest asked
 modest [] asked h = absurd h
 modest (name ∷ behind) asked h =
     let found : IsVerify behind asked = h.1 in
-    let order = found.asks.question_is.order_is in
     record {
-      least = order.at_least;
-      most = order.at_most;
+      question = asked-question found.asks.notion found.asks.order found.asks.model asked.question found.asks.question_is;
       crew = workers-some (found_in found.parts).workers asked.workers found.asks.workers_is;
     }
 
 -- so is what is asked to be checked
-pub record HasOrder (asked : CheckRequest) : Type 0 where
-  pub least : 1 ≤ asked.question.order
-  pub most : asked.question.order ≤ 8
-
-pub checked-order : (words : List (List ℕ)) (asked : CheckRequest) → Means words (check asked) → HasOrder asked
-checked-order [] asked h = absurd h
-checked-order (name ∷ behind) asked h =
+pub checked-question : (words : List (List ℕ)) (asked : CheckRequest) → Means words (check asked) → IsAsked asked.question
+checked-question [] asked h = absurd h
+checked-question (name ∷ behind) asked h =
     let found : IsCheck behind asked = h.1 in
-    let order = found.asks.question_is.order_is in
-    record { least = order.at_least; most = order.at_most }
+    asked-question found.notion found.order found.model asked.question found.asks.question_is
 
 -- a gadget that is asked for has 2 to 16 shares
 pub record HasShares (asked : Gadget) : Type 0 where

@@ -4,7 +4,7 @@ use Rattle.certificate.specs.declared.fault.Why.{Why}
 use Rattle.certificate.specs.declared.entries.Entry.{Entry}
 use Rattle.cert_check.specs.Closing.{IsCertified}
 use Rattle.cert_check.specs.Outcome.{IsFirstFault}
-use Rattle.command_words.specs.declared.command.Question.{Question}
+use Rattle.verify_question.specs.declared.question.Question.{Question}
 use Rattle.tuple_rank.specs.Tuples.{IsTuple, TuplesAreAll}
 use Rattle.accepted_netlist.specs.declared.netlist.Accepted.{Accepted}
 use Rattle.accepted_netlist.specs.Known.{Keeps}
@@ -13,8 +13,8 @@ use Rattle.maskverif_cli.specs.Report.{accepted_report, rejected_report}
 use Rattle.maskverif_cli.specs.Verdict.{IsProvableTuple}
 use Rattle.maskverif_cli.proofs.Deciding.{Hides, Simulates, all-is, ranked-tuple}
 
-module _ (asked : Question) (bytes certificate : List ℕ) (n : Accepted) (keeps : Keeps asked.notion asked.order asked.model bytes n) where
-  pub certified-is : Simulates asked.notion asked.model keeps.netlist n.instance → Hides asked.model keeps.netlist n.instance → TuplesAreAll
+module _ (asked : Question) (bytes certificate : List ℕ) (n : Accepted) (keeps : Keeps asked bytes n) where
+  pub certified-is : Simulates asked keeps.netlist n.instance → Hides asked keeps.netlist n.instance → TuplesAreAll
       → ((tuple : List ℕ) → IsTuple (length n.instance.probes) asked.order tuple → IsProvableTuple n.instance tuple)
       → (entries : List Entry) (text : List ℕ) → IsCertified n.instance asked.model asked.order certificate entries → text ≡ accepted_report (length entries)
       → IsAcceptedCertificate asked bytes certificate text
@@ -24,7 +24,7 @@ module _ (asked : Question) (bytes certificate : List ℕ) (n : Accepted) (keeps
     means = record { accepted = keeps.accepted; instance = keeps.instance };
     entries = entries;
     certified = certified;
-    all = all-is asked.notion asked.order asked.model bytes n keeps simulates hides
+    all = all-is asked bytes n keeps simulates hides
         (λ tuple rank has. provable tuple (ranked-tuple n.instance asked.order tuple rank tuples has));
     report = written;
   }

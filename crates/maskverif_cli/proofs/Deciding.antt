@@ -2,18 +2,18 @@
 use Rattle.std.proofs.Common.{◌≡◌, ℕ, ◌<◌, true, false, not, List, length, map, Some, None, sym, ap, ◌∙◌, subst}
 use Rattle.std.specs.Prelude.{IsTrue, ◌↔◌}
 use Rattle.std.proofs.lemmas.Bool.{not-false, not-true}
-use Rattle.circuit_types.specs.declared.probes.Model.{Model}
-use Rattle.circuit_types.specs.declared.nets.Nets.{Nets}
 use Rattle.circuit_types.specs.Probes.{probe_at}
 use Rattle.expr_table.specs.declared.instance.Instance.{Instance}
 use Rattle.expr_table.specs.declared.instance.Notion.{Notion}
+use Rattle.verify_question.specs.declared.question.Question.{Question}
 use Rattle.expr_table.specs.declared.instance.Notion.TheVariants.{Probing}
 use Rattle.net_build.specs.Names.{printed_name}
 use Rattle.once_random.specs.Tuples.{is_proved, roots_of}
 use Rattle.tuple_rank.specs.Tuples.{IsTuple, TuplesAreAll}
 use Rattle.tuple_rank.proofs.Order.{contains_at, rank-at}
 use Rattle.frontier_core.specs.Tree.{first_of, tree_of}
-use Rattle.count_law.specs.Instances.{leaves_left}
+use Rattle.term_build.specs.TermInstance.{HasInstance}
+use Rattle.once_random.specs.Provable.{leaves_left}
 use Rattle.count_law.specs.Netlists.{IsSimulatableTuple, IsIndependentTuple, tuple_bound}
 use Rattle.accepted_netlist.specs.declared.netlist.Accepted.{Accepted}
 use Rattle.accepted_netlist.specs.Known.{Keeps}
@@ -28,19 +28,19 @@ abbrev pub Decides : Instance → Type 0
 Decides x = (tuple : List ℕ) → IsTrue (is_proved x tuple) ↔ IsProvableTuple x tuple
 
 -- what a provable tuple observes is simulatable within its bound
-abbrev pub Simulates : Notion → Model → Netlist → Instance → Type 0
-Simulates notion model n x = (tuple : List ℕ) → IsProvableTuple x tuple
-    → IsSimulatableTuple notion model (roles n) (circuit n) tuple (leaves_left x (roots_of x tuple)) (tuple_bound notion (probes model n) tuple)
+abbrev pub Simulates : Question → Netlist → Instance → Type 0
+Simulates asked n x = (tuple : List ℕ) → IsProvableTuple x tuple
+    → IsSimulatableTuple asked.notion asked.model (roles n) (circuit asked n) tuple (leaves_left x (roots_of x tuple)) (tuple_bound asked.notion (probes asked n) tuple)
 
 -- where the instance is for probing security, what a provable tuple observes does not depend on the secrets
-abbrev pub Hides : Model → Netlist → Instance → Type 0
-Hides model n x = IsInstanceOf Probing model n x → (tuple : List ℕ) → IsProvableTuple x tuple
-    → IsIndependentTuple Probing model (roles n) (circuit n) tuple
+abbrev pub Hides : Question → Netlist → Instance → Type 0
+Hides asked n x = HasInstance Probing (roles n) (circuit asked n) (probes asked n) x → (tuple : List ℕ) → IsProvableTuple x tuple
+    → IsIndependentTuple Probing asked.model (roles n) (circuit asked n) tuple
 
-hides-under : (notion : Notion) (model : Model) (n : Netlist) (x : Instance) → Hides model n x → IsInstanceOf notion model n x → notion ≡ Probing
-    → (tuple : List ℕ) → IsProvableTuple x tuple → IsIndependentTuple notion model (roles n) (circuit n) tuple
-hides-under notion model n x hides instance is tuple provable =
-    subst (λ (m : Notion). IsInstanceOf m model n x → IsIndependentTuple m model (roles n) (circuit n) tuple) (sym is)
+hides-under : (asked : Question) (n : Netlist) (x : Instance) → Hides asked n x → IsInstanceOf asked n x → asked.notion ≡ Probing
+    → (tuple : List ℕ) → IsProvableTuple x tuple → IsIndependentTuple asked.notion asked.model (roles n) (circuit asked n) tuple
+hides-under asked n x hides instance is tuple provable =
+    subst (λ (m : Notion). HasInstance m (roles n) (circuit asked n) (probes asked n) x → IsIndependentTuple m asked.model (roles n) (circuit asked n) tuple) (sym is)
     (λ has. hides has tuple provable) instance
 
 module _ (x : Instance) (order : ℕ) (decides : Decides x) where
@@ -74,43 +74,43 @@ first-is-tuple x order tuple all first =
     let here = found (λ t. not (is_proved x t)) (tuples_of x order) tuple first in
     (all (length x.probes) order tuple).1 (contains_at (tuples_of x order) here.place tuple here.there)
 
-module _ (notion : Notion) (order : ℕ) (model : Model) (bytes : List ℕ) (kept : Accepted) (keeps : Keeps notion order model bytes kept) where
+module _ (asked : Question) (bytes : List ℕ) (kept : Accepted) (keeps : Keeps asked bytes kept) where
   -- each tuple is provable, so what it observes is as the notion asks
-  pub all-is : Simulates notion model keeps.netlist kept.instance → Hides model keeps.netlist kept.instance
-      → ((tuple : List ℕ) (rank : ℕ) → HasRank kept.instance order tuple rank → IsProvableTuple kept.instance tuple) → AllProvable notion order model keeps.netlist kept.instance
+  pub all-is : Simulates asked keeps.netlist kept.instance → Hides asked keeps.netlist kept.instance
+      → ((tuple : List ℕ) (rank : ℕ) → HasRank kept.instance asked.order tuple rank → IsProvableTuple kept.instance tuple) → AllProvable asked keeps.netlist kept.instance
   all-is simulates hides provable = record {
     provable = provable;
     simulatable = λ tuple rank has. simulates tuple (provable tuple rank has);
-    independent = λ is tuple rank has. hides-under notion model keeps.netlist kept.instance hides keeps.instance is tuple (provable tuple rank has);
+    independent = λ is tuple rank has. hides-under asked keeps.netlist kept.instance hides keeps.instance is tuple (provable tuple rank has);
   }
 
-module _ (notion : Notion) (order : ℕ) (model : Model) (bytes : List ℕ) (kept : Accepted) (keeps : Keeps notion order model bytes kept) (decides : Decides kept.instance) where
+module _ (asked : Question) (bytes : List ℕ) (kept : Accepted) (keeps : Keeps asked bytes kept) (decides : Decides kept.instance) where
   abbrev x : Instance
   x = kept.instance
 
-  pub secure-is : Simulates notion model keeps.netlist x → Hides model keeps.netlist x → (families : ℕ) (text : List ℕ) → first_of x order ≡ None → families ≡ length (tree_of x order)
-      → text ≡ secure_report notion order model (length x.probes) (length (tuples_of x order)) families → IsSecure notion order model bytes text
+  pub secure-is : Simulates asked keeps.netlist x → Hides asked keeps.netlist x → (families : ℕ) (text : List ℕ) → first_of x asked.order ≡ None → families ≡ length (tree_of x asked.order)
+      → text ≡ secure_report asked (length x.probes) (length (tuples_of x asked.order)) families → IsSecure asked bytes text
   secure-is simulates hides families text none counted written = record {
     netlist = keeps.netlist;
     instance = x;
     means = record { accepted = keeps.accepted; instance = keeps.instance };
-    all = all-is notion order model bytes kept keeps simulates hides (all-provable x order decides none);
-    report = written ∙ ap (secure_report notion order model (length x.probes) (length (tuples_of x order))) counted;
+    all = all-is asked bytes kept keeps simulates hides (all-provable x asked.order decides none);
+    report = written ∙ ap (secure_report asked (length x.probes) (length (tuples_of x asked.order))) counted;
   }
 
-  pub unproved-is : (rank : ℕ) (tuple text : List ℕ) → first_of x order ≡ Some tuple → HasRank x order tuple rank
-      → text ≡ unproved_report notion order model (length x.probes) (length (tuples_of x order)) rank (map (name_of_probe kept) tuple)
-      → IsUnproved notion order model bytes tuple text
+  pub unproved-is : (rank : ℕ) (tuple text : List ℕ) → first_of x asked.order ≡ Some tuple → HasRank x asked.order tuple rank
+      → text ≡ unproved_report asked (length x.probes) (length (tuples_of x asked.order)) rank (map (name_of_probe kept) tuple)
+      → IsUnproved asked bytes tuple text
   unproved-is rank tuple text first ranked written = record {
     netlist = keeps.netlist;
     instance = x;
     means = record { accepted = keeps.accepted; instance = keeps.instance };
     rank = rank;
     ranked = ranked;
-    not_provable = first-unprovable x order decides tuple first;
-    first = before-provable x order decides tuple first rank ranked;
-    report = written ∙ ap (unproved_report notion order model (length x.probes) (length (tuples_of x order)) rank) names;
+    not_provable = first-unprovable x asked.order decides tuple first;
+    first = before-provable x asked.order decides tuple first rank ranked;
+    report = written ∙ ap (unproved_report asked (length x.probes) (length (tuples_of x asked.order)) rank) names;
   }
     where
-      names : map (name_of_probe kept) tuple ≡ map (probe_name model keeps.netlist) tuple
-      names i = map (λ number. printed_name (ap (λ (n : Nets). n.wires) keeps.nets i) (probe_at (keeps.probes i) number).name_bit) tuple
+      names : map (name_of_probe kept) tuple ≡ map (probe_name asked keeps.netlist) tuple
+      names i = map (λ number. printed_name (keeps.circuit i).nets.wires (probe_at (keeps.probes i).list number).name_bit) tuple

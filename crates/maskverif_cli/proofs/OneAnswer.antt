@@ -4,13 +4,13 @@ use Rattle.std.proofs.lemmas.Bool.{cases_lt}
 use Rattle.std.specs.declared.string.String.{String}
 use Rattle.std.specs.declared.alloc.Global.{Global}
 use Rattle.mv_files.specs.Disk.{Disk, LongFile, IsMissing, IsWhole}
+use Rattle.circuit_types.specs.declared.circuit.Timing.TheVariants.{Settled}
 use Rattle.circuit_types.specs.declared.probes.Model.{Model}
 use Rattle.circuit_types.specs.declared.probes.Model.TheVariants.{Glitch}
 use Rattle.circuit_types.specs.declared.refusal.Refusal.{Refusal}
 use Rattle.circuit_types.specs.declared.refusal.Refusal.TheVariants.{Limit}
 use Rattle.circuit_types.specs.declared.refusal.Which.TheVariants.{CertificateBytes}
 use Rattle.expr_table.specs.declared.instance.Instance.{Instance}
-use Rattle.expr_table.specs.declared.instance.Notion.{Notion}
 use Rattle.expr_table.specs.declared.instance.Notion.TheVariants.{Probing}
 use Rattle.rtlil_print.specs.Printed.{printed}
 use Rattle.gadget_maker.specs.Gadget.{gadget}
@@ -23,7 +23,7 @@ use Rattle.cert_check.specs.Outcome.{IsAccepted, IsDue as IsOutcome, IsFirstFaul
 use Rattle.certificate.specs.declared.entries.Entry.{Entry}
 use Rattle.certificate.specs.Certificates.{lines_of, text_of}
 use Rattle.command_words.specs.declared.command.Gadget.{Gadget}
-use Rattle.command_words.specs.declared.command.Question.{Question}
+use Rattle.verify_question.specs.declared.question.Question.{Question}
 use Rattle.command_words.specs.Commands.{Request, CheckRequest, VerifyRequest, verify, check, generate, trial}
 use Rattle.command_words.specs.Names.{texts}
 use Rattle.term_build.specs.Laws.{OneInstance}
@@ -43,7 +43,7 @@ use Rattle.maskverif_cli.proofs.Asked.{OneCommand, tried-seed, tried-shares}
 -- the text of each gadget is accepted as it is tried
 abbrev pub GadgetsAccepted : Type 0
 GadgetsAccepted = (seed d : ℕ) → seed < 2 ^ 64 → 2 ≤ d → d ≤ 16
-    → (n : Netlist) × IsAcceptedAs Probing (min (d - 1) 2) Glitch (printed (gadget seed d)) n
+    → (n : Netlist) × IsAcceptedAs (record { notion = Probing; order = min (d - 1) 2; model = Glitch; timing = Settled }) (printed (gadget seed d)) n
 
 tried-accepted : GadgetsAccepted → (words : List (String Global)) (g : Gadget) → Ask words (trial g)
     → (n : Netlist) × IsAcceptedFor (trial_question g.shares) (gadget_text g) n
@@ -111,95 +111,95 @@ CertifiedIsAccepted = (x : Instance) (model : Model) (order : ℕ) (bytes : List
     → IsCertified x model order bytes entries → IsAccepted x model order bytes (length entries)
 
 module _ (one_netlist : OneNetlist) (one_refusal : OneRefusal) (either : AcceptedOrRefused) where
-  module _ (one_instance : OneInstance) (notion : Notion) (order : ℕ) (model : Model) (bytes : List ℕ) where
-    same-instance : (n m : Netlist) (x y : Instance) → Means notion order model bytes n x → Means notion order model bytes m y → x ≡ y
+  module _ (one_instance : OneInstance) (asked : Question) (bytes : List ℕ) where
+    same-instance : (n m : Netlist) (x y : Instance) → Means asked bytes n x → Means asked bytes m y → x ≡ y
     same-instance n m x y a b =
         let same = one_netlist bytes n m a.accepted.netlist b.accepted.netlist in
-        one_instance notion (roles m) (circuit m) (probes model m) x y
-        (subst (λ v. Means notion order model bytes v x) same a).instance b.instance
+        one_instance asked.notion (roles m) (circuit asked m) (probes asked m) x y
+        (subst (λ v. Means asked bytes v x) same a).instance b.instance
 
-    secure-secure : (a b : List ℕ) → IsSecure notion order model bytes a → IsSecure notion order model bytes b → a ≡ b
+    secure-secure : (a b : List ℕ) → IsSecure asked bytes a → IsSecure asked bytes b → a ≡ b
     secure-secure a b s t =
         let x = same-instance s.netlist t.netlist s.instance t.instance s.means t.means in
-        s.report ∙ ap (λ (i : Instance). secure_report notion order model (length i.probes) (length (tuples_of i order)) (length (tree_of i order))) x ∙ sym t.report
+        s.report ∙ ap (λ (i : Instance). secure_report asked (length i.probes) (length (tuples_of i asked.order)) (length (tree_of i asked.order))) x ∙ sym t.report
 
-    secure-unproved : (tuple a b : List ℕ) → IsSecure notion order model bytes a → IsUnproved notion order model bytes tuple b → ⊥
+    secure-unproved : (tuple a b : List ℕ) → IsSecure asked bytes a → IsUnproved asked bytes tuple b → ⊥
     secure-unproved tuple a b s t =
         let x = same-instance s.netlist t.netlist s.instance t.instance s.means t.means in
-        let ranked_there = subst (λ (i : Instance). HasRank i order tuple t.rank) (sym x) t.ranked in
+        let ranked_there = subst (λ (i : Instance). HasRank i asked.order tuple t.rank) (sym x) t.ranked in
         t.not_provable (subst (λ (i : Instance). IsProvableTuple i tuple) x (s.all.provable tuple t.rank ranked_there))
 
     -- of two unproved tuples neither has the lesser rank
-    not-before : (tuple other a b : List ℕ) (s : IsUnproved notion order model bytes tuple a) (t : IsUnproved notion order model bytes other b) → s.rank < t.rank → ⊥
+    not-before : (tuple other a b : List ℕ) (s : IsUnproved asked bytes tuple a) (t : IsUnproved asked bytes other b) → s.rank < t.rank → ⊥
     not-before tuple other a b s t lt =
         let x = same-instance s.netlist t.netlist s.instance t.instance s.means t.means in
-        let there = subst (λ (i : Instance). HasRank i order tuple s.rank) x s.ranked in
+        let there = subst (λ (i : Instance). HasRank i asked.order tuple s.rank) x s.ranked in
         s.not_provable (subst (λ (i : Instance). IsProvableTuple i tuple) (sym x) (t.first tuple s.rank lt there))
 
-    unproved-unproved : (tuple other a b : List ℕ) → IsUnproved notion order model bytes tuple a → IsUnproved notion order model bytes other b → (tuple ≡ other) × (a ≡ b)
+    unproved-unproved : (tuple other a b : List ℕ) → IsUnproved asked bytes tuple a → IsUnproved asked bytes other b → (tuple ≡ other) × (a ≡ b)
     unproved-unproved tuple other a b s t =
         let n = one_netlist bytes s.netlist t.netlist s.means.accepted.netlist t.means.accepted.netlist in
         let x = same-instance s.netlist t.netlist s.instance t.instance s.means t.means in
         let low = not-before tuple other a b s t in
         let high = not-before other tuple b a t s in
         let rank : s.rank ≡ t.rank = ⊎_elim (λ lt. absurd (low lt)) (λ ge. ⊎_elim (λ lt. absurd (high lt)) (λ le. omega arith) (cases_lt t.rank s.rank)) (cases_lt s.rank t.rank) in
-        let here = subst (λ k. HasRank s.instance order tuple k) rank s.ranked in
-        let there = subst (λ (i : Instance). HasRank i order tuple t.rank) x here in
+        let here = subst (λ k. HasRank s.instance asked.order tuple k) rank s.ranked in
+        let there = subst (λ (i : Instance). HasRank i asked.order tuple t.rank) x here in
         let both : Some tuple ≡ Some other = sym there ∙ t.ranked in
         let tuples : tuple ≡ other = cc in
-        (tuples, s.report ∙ (λ i. unproved_report notion order model (length (x i).probes) (length (tuples_of (x i) order)) (rank i) (map (probe_name model (n i)) (tuples i))) ∙ sym t.report)
+        (tuples, s.report ∙ (λ i. unproved_report asked (length (x i).probes) (length (tuples_of (x i) asked.order)) (rank i) (map (probe_name asked (n i)) (tuples i))) ∙ sym t.report)
 
-    refused-refused : (r s : Refusal) (a b : List ℕ) → IsRefused notion order model bytes r a → IsRefused notion order model bytes s b → (r ≡ s) × (a ≡ b)
+    refused-refused : (r s : Refusal) (a b : List ℕ) → IsRefused asked bytes r a → IsRefused asked bytes s b → (r ≡ s) × (a ≡ b)
     refused-refused r s a b v w =
-        let same = one_refusal notion order model bytes r s v.refusal w.refusal in
+        let same = one_refusal asked bytes r s v.refusal w.refusal in
         (same, v.report ∙ ap refused_report same ∙ sym w.report)
 
     -- one text says one thing
-    one-text : (x y : Instance) (a b : List ℕ) → x ≡ y → IsCertified x model order a (entries_of x (tree_of x order))
-        → IsCertified y model order b (entries_of y (tree_of y order)) → a ≡ b
+    one-text : (x y : Instance) (a b : List ℕ) → x ≡ y → IsCertified x asked.model asked.order a (entries_of x (tree_of x asked.order))
+        → IsCertified y asked.model asked.order b (entries_of y (tree_of y asked.order)) → a ≡ b
     one-text x y a b same s t =
-        s.text.text ∙ ap (λ (i : Instance). text_of (lines_of (header_of i model order) (entries_of i (tree_of i order))) ++ []) same ∙ sym t.text.text
+        s.text.text ∙ ap (λ (i : Instance). text_of (lines_of (header_of i asked.model asked.order) (entries_of i (tree_of i asked.order))) ++ []) same ∙ sym t.text.text
 
     -- what a certificate is answered with
     module _ (one_outcome : OneOutcome) (accepts : CertifiedIsAccepted) (certificate : List ℕ) where
-      moved-certified : (x y : Instance) (entries : List Entry) → x ≡ y → IsCertified x model order certificate entries → IsAccepted y model order certificate (length entries)
-      moved-certified x y entries same h = accepts y model order certificate entries (subst (λ (i : Instance). IsCertified i model order certificate entries) same h)
+      moved-certified : (x y : Instance) (entries : List Entry) → x ≡ y → IsCertified x asked.model asked.order certificate entries → IsAccepted y asked.model asked.order certificate (length entries)
+      moved-certified x y entries same h = accepts y asked.model asked.order certificate entries (subst (λ (i : Instance). IsCertified i asked.model asked.order certificate entries) same h)
 
       same-count : (f g : ℕ) → checked_as.Accepted f ≡ checked_as.Accepted g → f ≡ g
       same-count f g both = cc
 
-      certified-certified : (n m : Netlist) (x y : Instance) (e d : List Entry) → Means notion order model bytes n x → Means notion order model bytes m y
-          → IsCertified x model order certificate e → IsCertified y model order certificate d → length e ≡ length d
+      certified-certified : (n m : Netlist) (x y : Instance) (e d : List Entry) → Means asked bytes n x → Means asked bytes m y
+          → IsCertified x asked.model asked.order certificate e → IsCertified y asked.model asked.order certificate d → length e ≡ length d
       certified-certified n m x y e d v w p q =
-          same-count (length e) (length d) (one_outcome y model order certificate (checked_as.Accepted (length e)) (checked_as.Accepted (length d))
-          (moved-certified x y e (same-instance n m x y v w) p) (accepts y model order certificate d q))
+          same-count (length e) (length d) (one_outcome y asked.model asked.order certificate (checked_as.Accepted (length e)) (checked_as.Accepted (length d))
+          (moved-certified x y e (same-instance n m x y v w) p) (accepts y asked.model asked.order certificate d q))
 
-      certified-faulty : (n m : Netlist) (x y : Instance) (e : List Entry) (l : ℕ) (r : Why) → Means notion order model bytes n x → Means notion order model bytes m y
-          → IsCertified x model order certificate e → IsFirstFault y model order certificate l r → ⊥
+      certified-faulty : (n m : Netlist) (x y : Instance) (e : List Entry) (l : ℕ) (r : Why) → Means asked bytes n x → Means asked bytes m y
+          → IsCertified x asked.model asked.order certificate e → IsFirstFault y asked.model asked.order certificate l r → ⊥
       certified-faulty n m x y e l r v w p q =
-          let both = one_outcome y model order certificate (checked_as.Accepted (length e)) (checked_as.Rejected l r) (moved-certified x y e (same-instance n m x y v w) p) q in
+          let both = one_outcome y asked.model asked.order certificate (checked_as.Accepted (length e)) (checked_as.Rejected l r) (moved-certified x y e (same-instance n m x y v w) p) q in
           cc
 
       same-line : (l k : ℕ) (r u : Why) → checked_as.Rejected l r ≡ checked_as.Rejected k u → (l ≡ k) × (r ≡ u)
       same-line l k r u both = let line : l ≡ k = cc in let reason : r ≡ u = cc in (line, reason)
 
-      faulty-faulty : (n m : Netlist) (x y : Instance) (l k : ℕ) (r u : Why) → Means notion order model bytes n x → Means notion order model bytes m y
-          → IsFirstFault x model order certificate l r → IsFirstFault y model order certificate k u → (l ≡ k) × (r ≡ u)
+      faulty-faulty : (n m : Netlist) (x y : Instance) (l k : ℕ) (r u : Why) → Means asked bytes n x → Means asked bytes m y
+          → IsFirstFault x asked.model asked.order certificate l r → IsFirstFault y asked.model asked.order certificate k u → (l ≡ k) × (r ≡ u)
       faulty-faulty n m x y l k r u v w p q =
-          let here = subst (λ (i : Instance). IsFirstFault i model order certificate l r) (same-instance n m x y v w) p in
-          same-line l k r u (one_outcome y model order certificate (checked_as.Rejected l r) (checked_as.Rejected k u) here q)
+          let here = subst (λ (i : Instance). IsFirstFault i asked.model asked.order certificate l r) (same-instance n m x y v w) p in
+          same-line l k r u (one_outcome y asked.model asked.order certificate (checked_as.Rejected l r) (checked_as.Rejected k u) here q)
 
   verdicts : OneInstance → (q : Question) (bytes : List ℕ) (s t : Status) (a b : List ℕ) → IsVerdict q bytes s a → IsVerdict q bytes t b → (s ≡ t) × (a ≡ b)
-  verdicts one q bytes Secure Secure a b v w = (refl, secure-secure one q.notion q.order q.model bytes a b v w)
-  verdicts one q bytes Secure (Unproved u) a b v w = absurd (secure-unproved one q.notion q.order q.model bytes u.items a b v w)
-  verdicts one q bytes Secure (Refused y) a b v w = absurd (either q.notion q.order q.model bytes v.netlist y v.means.accepted w.refusal)
-  verdicts one q bytes (Unproved u) Secure a b v w = absurd (secure-unproved one q.notion q.order q.model bytes u.items b a w v)
+  verdicts one q bytes Secure Secure a b v w = (refl, secure-secure one q bytes a b v w)
+  verdicts one q bytes Secure (Unproved u) a b v w = absurd (secure-unproved one q bytes u.items a b v w)
+  verdicts one q bytes Secure (Refused y) a b v w = absurd (either q bytes v.netlist y v.means.accepted w.refusal)
+  verdicts one q bytes (Unproved u) Secure a b v w = absurd (secure-unproved one q bytes u.items b a w v)
   verdicts one q bytes (Unproved u) (Unproved p) a b v w =
-      let same = unproved-unproved one q.notion q.order q.model bytes u.items p.items a b v w in (λ i. Unproved (record { items = same.0 i }), same.1)
-  verdicts one q bytes (Unproved u) (Refused y) a b v w = absurd (either q.notion q.order q.model bytes v.netlist y v.means.accepted w.refusal)
-  verdicts one q bytes (Refused y) Secure a b v w = absurd (either q.notion q.order q.model bytes w.netlist y w.means.accepted v.refusal)
-  verdicts one q bytes (Refused y) (Unproved u) a b v w = absurd (either q.notion q.order q.model bytes w.netlist y w.means.accepted v.refusal)
-  verdicts one q bytes (Refused y) (Refused z) a b v w = let same = refused-refused one q.notion q.order q.model bytes y z a b v w in (ap Refused same.0, same.1)
+      let same = unproved-unproved one q bytes u.items p.items a b v w in (λ i. Unproved (record { items = same.0 i }), same.1)
+  verdicts one q bytes (Unproved u) (Refused y) a b v w = absurd (either q bytes v.netlist y v.means.accepted w.refusal)
+  verdicts one q bytes (Refused y) Secure a b v w = absurd (either q bytes w.netlist y w.means.accepted v.refusal)
+  verdicts one q bytes (Refused y) (Unproved u) a b v w = absurd (either q bytes w.netlist y w.means.accepted v.refusal)
+  verdicts one q bytes (Refused y) (Refused z) a b v w = let same = refused-refused one q bytes y z a b v w in (ap Refused same.0, same.1)
   verdicts one q bytes Accepted t a b v w = absurd v
   verdicts one q bytes (Rejected l y) t a b v w = absurd v
   verdicts one q bytes Made t a b v w = absurd v
@@ -221,7 +221,7 @@ module _ (one_netlist : OneNetlist) (one_refusal : OneRefusal) (either : Accepte
   verdict-decides : (q : Question) (bytes : List ℕ) (n : Netlist) (s : Status) (a : List ℕ) → IsAcceptedFor q bytes n → IsVerdict q bytes s a → is_decided s ≡ true
   verdict-decides q bytes n Secure a accepted v = refl
   verdict-decides q bytes n (Unproved u) a accepted v = refl
-  verdict-decides q bytes n (Refused y) a accepted v = absurd (either q.notion q.order q.model bytes n y accepted v.refusal)
+  verdict-decides q bytes n (Refused y) a accepted v = absurd (either q bytes n y accepted v.refusal)
   verdict-decides q bytes n Accepted a accepted v = refl
   verdict-decides q bytes n (Rejected l y) a accepted v = refl
   verdict-decides q bytes n Made a accepted v = absurd v
@@ -236,8 +236,8 @@ module _ (one_netlist : OneNetlist) (one_refusal : OneRefusal) (either : Accepte
   module _ (one : OneInstance) (q : Question) (wish : Option (List ℕ)) (bytes : List ℕ) where
     one-certificate : (a b : List ℕ) → HasCertificate q bytes a → HasCertificate q bytes b → a ≡ b
     one-certificate a b h k =
-        one-text one q.notion q.order q.model bytes h.instance k.instance a b
-        (same-instance one q.notion q.order q.model bytes h.netlist k.netlist h.instance k.instance h.means k.means) h.certified k.certified
+        one-text one q bytes h.instance k.instance a b
+        (same-instance one q bytes h.netlist k.netlist h.instance k.instance h.means k.means) h.certified k.certified
 
     -- an answer without a certificate, where one is owed
     plain-owes : (s : Status) (a : List ℕ) (f : NewFile) (r n c : List ℕ) → IsPlain q wish bytes s a f → OwesCertificate q wish bytes r n c → ⊥
@@ -260,7 +260,7 @@ module _ (one_netlist : OneNetlist) (one_refusal : OneRefusal) (either : Accepte
         let name : h.name ≡ k.name = cc in
         let certificate = one-certificate h.certificate k.certificate h.owes.certificate_is k.owes.certificate_is in
         let file : Some (h.name, h.certificate) ≡ Some (k.name, k.certificate) = λ i. Some (name i, certificate i) in
-        (h.status_is ∙ sym k.status_is, secure-secure one q.notion q.order q.model bytes a b h.owes.secure k.owes.secure, h.file_is ∙ file ∙ sym k.file_is)
+        (h.status_is ∙ sym k.status_is, secure-secure one q bytes a b h.owes.secure k.owes.secure, h.file_is ∙ file ∙ sym k.file_is)
 
     netlists : (s t : Status) (a b : List ℕ) (f g : NewFile) → AnswersNetlist q wish bytes s a f → AnswersNetlist q wish bytes t b g → Same s t a b f g
     netlists s t a b f g (plain h) (plain k) =
@@ -317,18 +317,18 @@ module _ (one_netlist : OneNetlist) (one_refusal : OneRefusal) (either : Accepte
     accepted-accepted : (a b : List ℕ) → IsAcceptedCertificate q bytes c a → IsAcceptedCertificate q bytes c b → a ≡ b
     accepted-accepted a b h k =
         h.report
-        ∙ ap accepted_report (certified-certified one q.notion q.order q.model bytes one_outcome accepts c
+        ∙ ap accepted_report (certified-certified one q bytes one_outcome accepts c
         h.netlist k.netlist h.instance k.instance h.entries k.entries h.means k.means h.certified k.certified)
         ∙ sym k.report
 
     accepted-rejected : (l : ℕ) (r : Why) (a b : List ℕ) → IsAcceptedCertificate q bytes c a → IsRejectedCertificate q bytes c l r b → ⊥
     accepted-rejected l r a b h k =
-        certified-faulty one q.notion q.order q.model bytes one_outcome accepts c
+        certified-faulty one q bytes one_outcome accepts c
         h.netlist k.netlist h.instance k.instance h.entries l r h.means k.means h.certified k.fault
 
     rejected-rejected : (l m : ℕ) (r u : Why) (a b : List ℕ) → IsRejectedCertificate q bytes c l r a → IsRejectedCertificate q bytes c m u b → (l ≡ m) × (r ≡ u)
     rejected-rejected l m r u a b h k =
-        faulty-faulty one q.notion q.order q.model bytes one_outcome accepts c
+        faulty-faulty one q bytes one_outcome accepts c
         h.netlist k.netlist h.instance k.instance l m r u h.means k.means h.fault k.fault
 
     pub checks : (s t : Status) (a b : List ℕ) → IsChecked q bytes c s a → IsChecked q bytes c t b → (s ≡ t) × (a ≡ b)
@@ -371,26 +371,26 @@ module _ (one_netlist : OneNetlist) (one_refusal : OneRefusal) (either : Accepte
     -- the netlist of a file is accepted, and refused
     module _ (asked : CheckRequest) where
       refused-accepted : (x y : List ℕ) (why : Refusal) (n : Netlist) → IsWhole asked.netlist (Some disk) x → IsWhole asked.netlist (Some disk) y
-          → HasRefusal asked.question.notion asked.question.order asked.question.model x why → IsAcceptedFor asked.question y n → ⊥
+          → HasRefusal asked.question x why → IsAcceptedFor asked.question y n → ⊥
       refused-accepted x y why n there here due accepted =
-          either asked.question.notion asked.question.order asked.question.model y n why accepted
-          (subst (λ v. HasRefusal asked.question.notion asked.question.order asked.question.model v why) (same-bytes disk asked.netlist x y there here) due)
+          either asked.question y n why accepted
+          (subst (λ v. HasRefusal asked.question v why) (same-bytes disk asked.netlist x y there here) due)
 
-      refused-found : (x : List ℕ) (why : Refusal) → IsWhole asked.netlist (Some disk) x → HasRefusal asked.question.notion asked.question.order asked.question.model x why
+      refused-found : (x : List ℕ) (why : Refusal) → IsWhole asked.netlist (Some disk) x → HasRefusal asked.question x why
           → HasAccepted (Some disk) asked.netlist asked.question → ⊥
       refused-found x why there due h = refused-accepted x h.bytes why h.netlist there h.there due h.accepted
 
       refused-checked : (x y c : List ℕ) (why : Refusal) (s : Status) (a : List ℕ) → IsWhole asked.netlist (Some disk) x → IsWhole asked.netlist (Some disk) y
-          → HasRefusal asked.question.notion asked.question.order asked.question.model x why → IsChecked asked.question y c s a → ⊥
+          → HasRefusal asked.question x why → IsChecked asked.question y c s a → ⊥
       refused-checked x y c why s a there here due h = let m = checked-means asked.question y c s a h in refused-accepted x y why m.0 there here due m.1
 
       two-refused : (x y : List ℕ) (why reason : Refusal) (s t : Status) (a b : List ℕ) (f g : NewFile) → IsWhole asked.netlist (Some disk) x → IsWhole asked.netlist (Some disk) y
-          → HasRefusal asked.question.notion asked.question.order asked.question.model x why → HasRefusal asked.question.notion asked.question.order asked.question.model y reason
+          → HasRefusal asked.question x why → HasRefusal asked.question y reason
           → Refuses why s a f → Refuses reason t b g → Same s t a b f g
       two-refused x y why reason s t a b f g there here due other h k =
           let q = asked.question in
-          let moved = subst (λ v. HasRefusal q.notion q.order q.model v why) (same-bytes disk asked.netlist x y there here) due in
-          let same = one_refusal q.notion q.order q.model y why reason moved other in
+          let moved = subst (λ v. HasRefusal q v why) (same-bytes disk asked.netlist x y there here) due in
+          let same = one_refusal q y why reason moved other in
           same-refusals reason s t a b f g (subst (λ r. Refuses r s a f) same h) k
 
       two-checked : (x y c d : List ℕ) (s t : Status) (a b : List ℕ) (f g : NewFile) → IsWhole asked.netlist (Some disk) x → IsWhole asked.netlist (Some disk) y
@@ -462,7 +462,7 @@ module _ (one_netlist : OneNetlist) (one_refusal : OneRefusal) (either : Accepte
   found-checks disk asked bytes c n s a f there accepted cert short (no_netlist h) = absurd (missing-there disk asked.netlist bytes h.missing there)
   found-checks disk asked bytes c n s a f there accepted cert short (refused x why here due h) =
       let q = asked.question in
-      absurd (either q.notion q.order q.model bytes n why accepted (subst (λ v. HasRefusal q.notion q.order q.model v why) (same-bytes disk asked.netlist x bytes here there) due))
+      absurd (either q bytes n why accepted (subst (λ v. HasRefusal q v why) (same-bytes disk asked.netlist x bytes here there) due))
   found-checks disk asked bytes c n s a f there accepted cert short (no_certificate found h) = absurd (missing-there disk asked.certificate c h.missing cert)
   found-checks disk asked bytes c n s a f there accepted cert short (long_certificate found longer h) = absurd (long-short disk asked.certificate c most_certificate_bytes longer cert short)
   found-checks disk asked bytes c n s a f there accepted cert short (checked x d here proof within h none) = checked-decides asked.question x d s a h
@@ -486,7 +486,7 @@ module _ (one_netlist : OneNetlist) (one_refusal : OneRefusal) (either : Accepte
     certificate-checks : HasCertificate q bytes c → (s : Status) (a : List ℕ) → IsChecked q bytes c s a → s ≡ Accepted
     certificate-checks has Accepted a h = refl
     certificate-checks has (Rejected l r) a h =
-        absurd (certified-faulty one q.notion q.order q.model bytes one_outcome accepts c
+        absurd (certified-faulty one q bytes one_outcome accepts c
         has.netlist h.netlist has.instance h.instance (entries_of has.instance (tree_of has.instance q.order)) l r has.means h.means has.certified h.fault)
     certificate-checks has Secure a h = absurd h
     certificate-checks has (Unproved u) a h = absurd h
@@ -530,8 +530,8 @@ module _ (one_netlist : OneNetlist) (one_refusal : OneRefusal) (either : Accepte
     written-checks s a f (no_netlist h) = absurd (missing-there later asked.netlist bytes h.missing there)
     written-checks s a f (refused x why here due h) =
         let q = asked.question in
-        absurd (either q.notion q.order q.model bytes has.netlist why has.means.accepted
-        (subst (λ v. HasRefusal q.notion q.order q.model v why) (same-bytes later asked.netlist x bytes here there) due))
+        absurd (either q bytes has.netlist why has.means.accepted
+        (subst (λ v. HasRefusal q v why) (same-bytes later asked.netlist x bytes here there) due))
     written-checks s a f (no_certificate found h) = absurd (missing-there later asked.certificate c h.missing cert)
     written-checks s a f (long_certificate found longer h) = absurd (long-short later asked.certificate c most_certificate_bytes longer cert short)
     written-checks s a f (checked x d here proof within h none) =

@@ -11,7 +11,7 @@ use Rattle.circuit_types.specs.declared.refusal.Refusal.TheVariants.{Limit}
 use Rattle.circuit_types.specs.declared.refusal.Which.{Which}
 use Rattle.circuit_types.specs.declared.refusal.Which.TheVariants.{CertificateBytes, FileBytes}
 use Rattle.rtlil_lex.specs.Tokens.{most_bytes}
-use Rattle.command_words.specs.declared.command.Question.{Question}
+use Rattle.verify_question.specs.declared.question.Question.{Question}
 use Rattle.command_words.specs.Commands.{CheckRequest, Request, VerifyRequest, verify, check, generate, trial}
 use Rattle.accepted_netlist.specs.declared.netlist.Accepted.{Accepted}
 use Rattle.accepted_netlist.specs.Known.{Keeps}
@@ -90,7 +90,7 @@ pub unproved-plain : (asked : Question) (wish : Option (List ℕ)) (bytes : List
 unproved-plain asked wish bytes tuple text h =
     plain (record { verdict = h; none_due = inr (λ (same : Unproved tuple ≡ Secure). cc); no_file = refl })
 
-module _ (asked : Question) (n : Accepted) (bytes : List ℕ) (keeps : Keeps asked.notion asked.order asked.model bytes n) where
+module _ (asked : Question) (n : Accepted) (bytes : List ℕ) (keeps : Keeps asked bytes n) where
   module _ (name report certificate : List ℕ) (is : IsSecureReport asked n report) (says : IsCertificateOf asked n certificate) where
     owes : OwesCertificate asked (Some name) bytes report name certificate
     owes = record { secure = is bytes keeps; wished = refl; certificate_is = says bytes keeps }
@@ -164,7 +164,7 @@ module _ (disk : Option Disk) (asked : CheckRequest) where
   check-refused bytes there status text file h = refused bytes h.0 there h.1 h.2
 
   module _ (bytes : List ℕ) (n : Accepted) (there : IsWhole asked.netlist disk bytes)
-      (keeps : Keeps asked.question.notion asked.question.order asked.question.model bytes n) where
+      (keeps : Keeps asked.question bytes n) where
     found : HasAccepted disk asked.netlist asked.question
     found = record { bytes = bytes; there = there; netlist = keeps.netlist; accepted = keeps.accepted }
 

@@ -3,14 +3,12 @@ use Rattle.std.specs.Prelude.{ℕ, ◌≡◌, ◌≢◌, ◌<◌, ◌≤◌, ◌
 use Rattle.std.specs.declared.string.String.{String}
 use Rattle.std.specs.declared.alloc.Global.{Global}
 use Rattle.mv_files.specs.Disk.{Disk, file_of, IsLonger, IsMissing, IsWhole}
-use Rattle.circuit_types.specs.declared.probes.Model.{Model}
 use Rattle.circuit_types.specs.declared.refusal.Refusal.{Refusal as AnyRefusal}
 use Rattle.circuit_types.specs.declared.refusal.Refusal.TheVariants.{Limit}
 use Rattle.circuit_types.specs.declared.refusal.Which.TheVariants.{CertificateBytes}
-use Rattle.expr_table.specs.declared.instance.Notion.{Notion}
 use Rattle.accepted_netlist.specs.Netlist.{Netlist, HasRefusal, IsAcceptedAs}
 use Rattle.command_words.specs.declared.command.Gadget.{Gadget}
-use Rattle.command_words.specs.declared.command.Question.{Question}
+use Rattle.verify_question.specs.declared.question.Question.{Question}
 use Rattle.command_words.specs.Commands.{Means as MeansRequest, Request, CheckRequest, VerifyRequest, verify, check, generate, trial}
 use Rattle.command_words.specs.Names.{texts}
 use Rattle.maskverif_cli.specs.declared.status.Status.{Status}
@@ -36,20 +34,20 @@ NewFile = Option (List ℕ × List ℕ)
 -- ---- netlists
 
 -- a refusal is due for the bytes, and this is the report on it
-pub record IsRefused (notion : Notion) (order : ℕ) (model : Model) (bytes : List ℕ) (why : AnyRefusal) (text : List ℕ) : Type 0 where
-  pub refusal : HasRefusal notion order model bytes why
+pub record IsRefused (asked : Question) (bytes : List ℕ) (why : AnyRefusal) (text : List ℕ) : Type 0 where
+  pub refusal : HasRefusal asked bytes why
   pub report : text ≡ refused_report why
 
 -- what the bytes of a netlist are answered with, and the report on them
 abbrev pub IsVerdict : Question → List ℕ → Status → List ℕ → Type 0
-IsVerdict asked bytes Secure text = IsSecure asked.notion asked.order asked.model bytes text
-IsVerdict asked bytes (Unproved tuple) text = IsUnproved asked.notion asked.order asked.model bytes tuple.items text
-IsVerdict asked bytes (Refused why) text = IsRefused asked.notion asked.order asked.model bytes why text
+IsVerdict asked bytes Secure text = IsSecure asked bytes text
+IsVerdict asked bytes (Unproved tuple) text = IsUnproved asked bytes tuple.items text
+IsVerdict asked bytes (Refused why) text = IsRefused asked bytes why text
 IsVerdict asked bytes status text = ⊥
 
 -- no refusal is due for the bytes
 abbrev pub IsAcceptedFor : Question → List ℕ → Netlist → Type 0
-IsAcceptedFor asked bytes n = IsAcceptedAs asked.notion asked.order asked.model bytes n
+IsAcceptedFor asked bytes n = IsAcceptedAs asked bytes n
 
 -- the answer is this refusal
 pub record Refuses (why : AnyRefusal) (status : Status) (text : List ℕ) (file : NewFile) : Type 0 where
@@ -66,7 +64,7 @@ pub record IsPlain (asked : Question) (wish : Option (List ℕ)) (bytes : List �
 
 -- each tuple is proved, and a certificate is asked for
 pub record OwesCertificate (asked : Question) (wish : Option (List ℕ)) (bytes report name certificate : List ℕ) : Type 0 where
-  pub secure : IsSecure asked.notion asked.order asked.model bytes report
+  pub secure : IsSecure asked bytes report
   pub wished : wish ≡ Some name
   pub certificate_is : HasCertificate asked bytes certificate
 
@@ -121,7 +119,7 @@ pub data AnswersVerify (disk : Option Disk) (asked : VerifyRequest) (status : St
 pub data AnswersCheck (disk : Option Disk) (asked : CheckRequest) (status : Status) (text : List ℕ) (file : NewFile) : Type 0 where
   no_netlist : HasNoFile disk asked.netlist status text file → AnswersCheck disk asked status text file
   refused : (bytes : List ℕ) (why : AnyRefusal) → IsWhole asked.netlist disk bytes
-      → HasRefusal asked.question.notion asked.question.order asked.question.model bytes why → Refuses why status text file
+      → HasRefusal asked.question bytes why → Refuses why status text file
       → AnswersCheck disk asked status text file
   no_certificate : HasAccepted disk asked.netlist asked.question → HasNoFile disk asked.certificate status text file
       → AnswersCheck disk asked status text file

@@ -5,7 +5,7 @@ use Rattle.certificate.specs.declared.entries.Entry.{Entry}
 use Rattle.cert_check.specs.Closing.{IsCertified}
 use Rattle.cert_check.specs.Entries.{entries_of}
 use Rattle.cert_check.specs.Outcome.{IsFirstFault}
-use Rattle.command_words.specs.declared.command.Question.{Question}
+use Rattle.verify_question.specs.declared.question.Question.{Question}
 use Rattle.expr_table.specs.declared.instance.Instance.{Instance}
 use Rattle.frontier_core.specs.Tree.{tree_of}
 use Rattle.accepted_netlist.specs.Netlist.{Netlist}
@@ -19,7 +19,7 @@ use Rattle.maskverif_cli.specs.Verdict.{AllProvable, Means}
 pub record HasCertificate (asked : Question) (bytes certificate : List ℕ) : Type 0 where
   pub netlist : Netlist
   pub instance : Instance
-  pub means : Means asked.notion asked.order asked.model bytes netlist instance
+  pub means : Means asked bytes netlist instance
   pub certified : IsCertified instance asked.model asked.order certificate (entries_of instance (tree_of instance asked.order))
 
 -- The certificate certifies the instance of the netlist, so each tuple is provable; and this is the report on it, with the
@@ -27,10 +27,10 @@ pub record HasCertificate (asked : Question) (bytes certificate : List ℕ) : Ty
 pub record IsAcceptedCertificate (asked : Question) (bytes certificate text : List ℕ) : Type 0 where
   pub netlist : Netlist
   pub instance : Instance
-  pub means : Means asked.notion asked.order asked.model bytes netlist instance
+  pub means : Means asked bytes netlist instance
   pub entries : List Entry
   pub certified : IsCertified instance asked.model asked.order certificate entries
-  pub all : AllProvable asked.notion asked.order asked.model netlist instance
+  pub all : AllProvable asked netlist instance
   pub report : text ≡ accepted_report (length entries)
 
 -- The certificate does not certify it: this is its first line with which something is wrong, and what; and this is the report
@@ -38,7 +38,7 @@ pub record IsAcceptedCertificate (asked : Question) (bytes certificate text : Li
 pub record IsRejectedCertificate (asked : Question) (bytes certificate : List ℕ) (line : ℕ) (why : Why) (text : List ℕ) : Type 0 where
   pub netlist : Netlist
   pub instance : Instance
-  pub means : Means asked.notion asked.order asked.model bytes netlist instance
+  pub means : Means asked bytes netlist instance
   pub fault : IsFirstFault instance asked.model asked.order certificate line why
   pub report : text ≡ rejected_report line why
 

@@ -11,7 +11,7 @@ use Rattle.maskverif_cli.specs.declared.report.Heading.{Heading}
 use Rattle.maskverif_cli.specs.declared.reply.Reply.{Reply}
 use Rattle.maskverif_cli.specs.declared.reply.Halt.{Halt}
 use Rattle.maskverif_cli.specs.declared.status.Status.{Status}
-use Rattle.command_words.specs.declared.command.Question.{Question}
+use Rattle.verify_question.specs.declared.question.Question.{Question}
 use Rattle.maskverif_cli.specs.Verdict.{IsSecure}
 use Rattle.maskverif_cli.specs.Certificates.{HasCertificate, IsChecked}
 use Rattle.maskverif_cli.specs.Answer.{AnswersNetlist, NewFile, Refuses}
@@ -29,35 +29,36 @@ heading_of asked kept = record {
   tuples = length (tuples (length kept.instance.probes) asked.order);
 }
 
--- Whatever bytes it is kept of: this is the report on them where each tuple is proved, and their certificate.
+-- Whatever bytes it is kept of: this is the report on them where each tuple is proved.
 abbrev pub IsSecureReport : Question → Accepted → List ℕ → Type 0
 IsSecureReport asked kept text =
-    (bytes : List ℕ) → Keeps asked.notion asked.order asked.model bytes kept
-    → IsSecure asked.notion asked.order asked.model bytes text
+    (bytes : List ℕ) → Keeps asked bytes kept
+    → IsSecure asked bytes text
 
+-- the same of their certificate
 abbrev pub IsCertificateOf : Question → Accepted → List ℕ → Type 0
 IsCertificateOf asked kept text =
-    (bytes : List ℕ) → Keeps asked.notion asked.order asked.model bytes kept → HasCertificate asked bytes text
+    (bytes : List ℕ) → Keeps asked bytes kept → HasCertificate asked bytes text
 
 -- the same of how it ends: with what they are answered with
 abbrev pub EndsKept : Question → Option (List ℕ) → Accepted → Result Reply Halt → Type 0
 EndsKept asked wish kept result =
-    (bytes : List ℕ) → Keeps asked.notion asked.order asked.model bytes kept
+    (bytes : List ℕ) → Keeps asked bytes kept
     → Ends (AnswersNetlist asked wish bytes) wish CannotFail result
 
 -- the same of a reply: it is what they are answered with
 abbrev pub IsReplyTo : Question → Option (List ℕ) → Accepted → Reply → Type 0
 IsReplyTo asked wish kept reply =
-    (bytes : List ℕ) → Keeps asked.notion asked.order asked.model bytes kept
+    (bytes : List ℕ) → Keeps asked bytes kept
     → Gives (AnswersNetlist asked wish bytes) wish reply
 
 -- the same of a reply: what a certificate for them is answered with
 abbrev pub ChecksKept : Question → Accepted → List ℕ → Reply → Type 0
 ChecksKept asked kept certificate reply =
-    (bytes : List ℕ) → Keeps asked.notion asked.order asked.model bytes kept
+    (bytes : List ℕ) → Keeps asked bytes kept
     → Gives (λ status text file. IsChecked asked bytes certificate status text × (file ≡ None)) None reply
 
 -- the bytes are refused, and this is the answer
 abbrev pub RefusesBytes : Question → List ℕ → Status → List ℕ → NewFile → Type 0
 RefusesBytes asked bytes status text file =
-    (why : Refusal) × HasRefusal asked.notion asked.order asked.model bytes why × Refuses why status text file
+    (why : Refusal) × HasRefusal asked bytes why × Refuses why status text file

@@ -30,10 +30,11 @@ new_file wish (Some certificate) = option_map (λ (name : List ℕ). (name, cert
 abbrev pub Gives : Answering → Option (List ℕ) → Reply → Type 0
 Gives IsAnswer wish reply = IsAnswer reply.status reply.text.items (new_file wish reply.certificate)
 
--- a call to the files may fail, or none is made
+-- a call to the files may fail
 abbrev pub MayFail : Type 0
 MayFail = Unit {0}
 
+-- none is made
 abbrev pub CannotFail : Type 0
 CannotFail = ⊥
 
@@ -59,6 +60,7 @@ CountsHalt old new ReadFault = Rose old new
 CountsHalt old new (Due reply) = new ≡ old
 CountsHalt old new NoMemory = new ≡ old
 
+-- the same where the command may go on
 abbrev pub CountsReads : {T : Type 0} → ℕ → ℕ → Result T Halt → Type 0
 CountsReads old new (Ok x) = new ≡ old
 CountsReads old new (Err halt) = CountsHalt old new halt
@@ -114,6 +116,7 @@ ConcludesHalt wish (Due reply) old new result = Delivers reply.status reply.text
 ConcludesHalt wish ReadFault old new result = (result ≡ state.ReadFault) × Rests old new
 ConcludesHalt wish NoMemory old new result = (result ≡ state.NoMemory) × Rests old new
 
+-- the same of how the command ends
 abbrev pub Concludes : Option (List ℕ) → Result Reply Halt → Outside → Outside → Status → Type 0
 Concludes wish (Ok reply) old new result = Delivers reply.status reply.text.items (new_file wish reply.certificate) old new result
 Concludes wish (Err halt) old new result = ConcludesHalt wish halt old new result

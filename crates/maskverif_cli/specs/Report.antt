@@ -2,41 +2,40 @@
 use Rattle.std.specs.Prelude.{ℕ, List, [], ◌∷◌, ◌++◌, codes, Option, Some, None}
 use Rattle.std.specs.List.{flat_map}
 use Rattle.std.specs.Fmt.{decimal}
-use Rattle.circuit_types.specs.declared.probes.Model.{Model}
 use Rattle.circuit_types.specs.declared.refusal.Refusal.{Refusal}
-use Rattle.circuit_types.specs.declared.refusal.Refusal.TheVariants.{BadToken, BadForm, NoTop, UnsupportedStatement, UnsupportedCell, Hierarchy, NoWire, BadSlice, WidthMismatch, PortMissing, TwoDrivers, Undriven, UnknownBit, Limit, NoteForm, NoteMissing, ShareGap, ShareDouble, ClockUse, GateLoop, RegisterLoop, ResetNotHeld, EnableNotHeld}
+use Rattle.circuit_types.specs.declared.refusal.Refusal.TheVariants.{BadToken, BadForm, NoTop, UnsupportedStatement, UnsupportedCell, Hierarchy, NoWire, BadSlice, WidthMismatch, PortMissing, TwoDrivers, Undriven, UnknownBit, Limit, NoteForm, NoteMissing, ShareGap, ShareDouble, ClockUse, GateLoop, RegisterLoop, ResetNotHeld, EnableNotHeld, ShareMixed, CoarseForm, NoModule, Recursion, InstancePort, NameTwice}
 use Rattle.circuit_types.specs.declared.refusal.Which.{Which}
 use Rattle.circuit_types.specs.declared.refusal.Which.TheVariants as which
-use Rattle.expr_table.specs.declared.instance.Notion.{Notion}
+use Rattle.verify_question.specs.declared.question.Question.{Question}
 use Rattle.certificate.specs.declared.fault.Why.{Why}
 use Rattle.certificate.specs.declared.fault.Why.TheVariants.{Form, Header, Extra, Open, Count, Hull, Cuts, Bound}
-use Rattle.command_words.specs.Names.{notion_word, model_word}
+use Rattle.verify_question.specs.Words.{notion_word, model_word}
 
 -- a text and a line feed
 abbrev pub line : List ℕ → List ℕ
 line text = text ++ 10 ∷ []
 
 -- the second to the fourth line of a report on a netlist
-abbrev pub counts_of : Notion → ℕ → Model → ℕ → ℕ → List ℕ
-counts_of notion order model probes tuples =
-    line (codes "notion " ++ notion_word notion ++ codes " order " ++ decimal order ++ codes " model " ++ model_word model)
+abbrev pub counts_of : Question → ℕ → ℕ → List ℕ
+counts_of asked probes tuples =
+    line (codes "notion " ++ notion_word asked.notion ++ codes " order " ++ decimal asked.order ++ codes " model " ++ model_word asked.model)
     ++ line (codes "probes " ++ decimal probes)
     ++ line (codes "tuples " ++ decimal tuples)
 
 -- the report where each tuple is provable, with the number of families of the proof tree
-abbrev pub secure_report : Notion → ℕ → Model → ℕ → ℕ → ℕ → List ℕ
-secure_report notion order model probes tuples families =
-    line (codes "Secure") ++ counts_of notion order model probes tuples ++ line (codes "families " ++ decimal families)
+abbrev pub secure_report : Question → ℕ → ℕ → ℕ → List ℕ
+secure_report asked probes tuples families =
+    line (codes "Secure") ++ counts_of asked probes tuples ++ line (codes "families " ++ decimal families)
 
 -- a line for each of these names of probes
 abbrev pub probe_lines : List (List ℕ) → List ℕ
 probe_lines names = flat_map (λ name. line (codes "probe " ++ name)) names
 
 -- the report on an unproved tuple: its rank, and the names of its probes
-abbrev pub unproved_report : Notion → ℕ → Model → ℕ → ℕ → ℕ → List (List ℕ) → List ℕ
-unproved_report notion order model probes tuples rank names =
+abbrev pub unproved_report : Question → ℕ → ℕ → ℕ → List (List ℕ) → List ℕ
+unproved_report asked probes tuples rank names =
     line (codes "Unproved")
-    ++ counts_of notion order model probes tuples
+    ++ counts_of asked probes tuples
     ++ line (codes "rank " ++ decimal rank)
     ++ probe_lines names
 
@@ -70,6 +69,7 @@ limit_words which.Seen = codes "14 Limit Seen"
 limit_words which.Tuples = codes "14 Limit Tuples"
 limit_words which.Terms = codes "14 Limit Terms"
 limit_words which.CertificateBytes = codes "14 Limit CertificateBytes"
+limit_words which.Flat = codes "14 Limit Flat"
 
 -- the number and the name of a refusal
 abbrev pub refusal_words : Refusal → List ℕ
@@ -96,6 +96,12 @@ refusal_words (GateLoop l) = codes "20 GateLoop"
 refusal_words (RegisterLoop l) = codes "21 RegisterLoop"
 refusal_words (ResetNotHeld l) = codes "22 ResetNotHeld"
 refusal_words (EnableNotHeld l) = codes "23 EnableNotHeld"
+refusal_words (ShareMixed l) = codes "24 ShareMixed"
+refusal_words (CoarseForm l) = codes "25 CoarseForm"
+refusal_words (NoModule l) = codes "26 NoModule"
+refusal_words (Recursion l) = codes "27 Recursion"
+refusal_words (InstancePort l) = codes "28 InstancePort"
+refusal_words (NameTwice l) = codes "29 NameTwice"
 
 -- the line of a refusal, where it has one
 abbrev pub line_of : Refusal → Option ℕ
@@ -122,15 +128,23 @@ line_of (GateLoop l) = Some l
 line_of (RegisterLoop l) = Some l
 line_of (ResetNotHeld l) = Some l
 line_of (EnableNotHeld l) = Some l
+line_of (ShareMixed l) = Some l
+line_of (CoarseForm l) = Some l
+line_of (NoModule l) = Some l
+line_of (Recursion l) = Some l
+line_of (InstancePort l) = Some l
+line_of (NameTwice l) = Some l
 
 -- the words on a line, if there is one
 abbrev pub place_words : Option ℕ → List ℕ
 place_words None = []
 place_words (Some l) = codes " line " ++ decimal l
 
+-- the report on a refusal: its number, its name, and its line where it has one
 abbrev pub refused_report : Refusal → List ℕ
 refused_report refusal = line (codes "Refused " ++ refusal_words refusal ++ place_words (line_of refusal))
 
+-- how the program is called
 abbrev pub usage_text : List ℕ
 usage_text =
     line (codes "usage: maskverif verify NOTION ORDER MODEL NETLIST [--workers N] [--certificate OUT] [--schedule SEED]")

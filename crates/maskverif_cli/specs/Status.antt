@@ -3,6 +3,7 @@ use Rattle.std.specs.Prelude.{ℕ}
 use Rattle.maskverif_cli.specs.declared.status.Status.{Status}
 use Rattle.maskverif_cli.specs.declared.status.Status.TheVariants.{Secure, Accepted, Unproved, Rejected, Made, Usage, Refused, NoFile, ReadFault, WriteFault, NoMemory}
 
+-- the exit status of the program: 0 where all is as asked, 1 where something is not proved, and from 2 on why nothing is said
 abbrev pub exit_code : Status → ℕ
 exit_code Secure = 0
 exit_code Accepted = 0

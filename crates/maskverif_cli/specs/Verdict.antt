@@ -1,14 +1,12 @@
 -- The verdict on the instance of a netlist.
 use Rattle.std.specs.Prelude.{ℕ, ◌≡◌, ◌<◌, List, length, map, slice_get, Some}
-use Rattle.circuit_types.specs.declared.probes.Model.{Model}
 use Rattle.expr_table.specs.declared.instance.Instance.{Instance}
-use Rattle.expr_table.specs.declared.instance.Notion.{Notion}
+use Rattle.verify_question.specs.declared.question.Question.{Question}
 use Rattle.expr_table.specs.declared.instance.Notion.TheVariants.{Probing}
-use Rattle.once_random.specs.Provable.{IsProvable}
+use Rattle.once_random.specs.Provable.{IsProvable, leaves_left}
 use Rattle.once_random.specs.Tuples.{roots_of, bound_of}
 use Rattle.tuple_rank.specs.Tuples.{tuples}
 use Rattle.frontier_core.specs.Tree.{tree_of}
-use Rattle.count_law.specs.Instances.{leaves_left}
 use Rattle.count_law.specs.Netlists.{IsSimulatableTuple, IsIndependentTuple, tuple_bound}
 use Rattle.accepted_netlist.specs.Netlist.{Netlist, roles, circuit, probes, IsAcceptedAs, IsInstanceOf, probe_name}
 use Rattle.maskverif_cli.specs.Report.{secure_report, unproved_report}
@@ -26,40 +24,40 @@ abbrev pub HasRank : Instance → ℕ → List ℕ → ℕ → Type 0
 HasRank x order tuple rank = slice_get (tuples_of x order) rank ≡ Some tuple
 
 -- the bytes are the text of this accepted netlist, whose instance this is
-pub record Means (notion : Notion) (order : ℕ) (model : Model) (bytes : List ℕ) (n : Netlist) (x : Instance) : Type 0 where
-  pub accepted : IsAcceptedAs notion order model bytes n
-  pub instance : IsInstanceOf notion model n x
+pub record Means (asked : Question) (bytes : List ℕ) (n : Netlist) (x : Instance) : Type 0 where
+  pub accepted : IsAcceptedAs asked bytes n
+  pub instance : IsInstanceOf asked n x
 
 -- Each tuple of at most as many probes as the order is provable. So what it observes is simulatable within its bound and,
 -- under probing security, does not depend on the secrets.
-pub record AllProvable (notion : Notion) (order : ℕ) (model : Model) (n : Netlist) (x : Instance) : Type 0 where
-  pub provable : (tuple : List ℕ) (rank : ℕ) → HasRank x order tuple rank → IsProvableTuple x tuple
+pub record AllProvable (asked : Question) (n : Netlist) (x : Instance) : Type 0 where
+  pub provable : (tuple : List ℕ) (rank : ℕ) → HasRank x asked.order tuple rank → IsProvableTuple x tuple
   -- what each tuple observes is simulatable within its bound, from the leaves that its least chain leaves live
-  pub simulatable : (tuple : List ℕ) (rank : ℕ) → HasRank x order tuple rank
-      → IsSimulatableTuple notion model (roles n) (circuit n) tuple (leaves_left x (roots_of x tuple))
-      (tuple_bound notion (probes model n) tuple)
+  pub simulatable : (tuple : List ℕ) (rank : ℕ) → HasRank x asked.order tuple rank
+      → IsSimulatableTuple asked.notion asked.model (roles n) (circuit asked n) tuple (leaves_left x (roots_of x tuple))
+      (tuple_bound asked.notion (probes asked n) tuple)
   -- for probing security, what each tuple observes does not depend on the secrets
-  pub independent : notion ≡ Probing → (tuple : List ℕ) (rank : ℕ) → HasRank x order tuple rank
-      → IsIndependentTuple notion model (roles n) (circuit n) tuple
+  pub independent : asked.notion ≡ Probing → (tuple : List ℕ) (rank : ℕ) → HasRank x asked.order tuple rank
+      → IsIndependentTuple asked.notion asked.model (roles n) (circuit asked n) tuple
 
 -- Each tuple is provable, and this is the report on it: with how many probes, tuples and families of the proof tree there are.
-pub record IsSecure (notion : Notion) (order : ℕ) (model : Model) (bytes text : List ℕ) : Type 0 where
+pub record IsSecure (asked : Question) (bytes text : List ℕ) : Type 0 where
   pub netlist : Netlist
   pub instance : Instance
-  pub means : Means notion order model bytes netlist instance
-  pub all : AllProvable notion order model netlist instance
+  pub means : Means asked bytes netlist instance
+  pub all : AllProvable asked netlist instance
   pub report : text
-      ≡ secure_report notion order model (length instance.probes) (length (tuples_of instance order)) (length (tree_of instance order))
+      ≡ secure_report asked (length instance.probes) (length (tuples_of instance asked.order)) (length (tree_of instance asked.order))
 
 -- the tuple is the first that is not provable, and this is the report on it: with its rank and the names of its probes
-pub record IsUnproved (notion : Notion) (order : ℕ) (model : Model) (bytes tuple text : List ℕ) : Type 0 where
+pub record IsUnproved (asked : Question) (bytes tuple text : List ℕ) : Type 0 where
   pub netlist : Netlist
   pub instance : Instance
-  pub means : Means notion order model bytes netlist instance
+  pub means : Means asked bytes netlist instance
   pub rank : ℕ
-  pub ranked : HasRank instance order tuple rank
+  pub ranked : HasRank instance asked.order tuple rank
   pub not_provable : ¬ IsProvableTuple instance tuple
-  pub first : (other : List ℕ) (before : ℕ) → before < rank → HasRank instance order other before → IsProvableTuple instance other
+  pub first : (other : List ℕ) (before : ℕ) → before < rank → HasRank instance asked.order other before → IsProvableTuple instance other
   pub report : text
-      ≡ unproved_report notion order model (length instance.probes) (length (tuples_of instance order)) rank
-      (map (probe_name model netlist) tuple)
+      ≡ unproved_report asked (length instance.probes) (length (tuples_of instance asked.order)) rank
+      (map (probe_name asked netlist) tuple)

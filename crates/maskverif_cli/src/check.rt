@@ -4,6 +4,7 @@ ghost use Rattle.std.specs.Prelude.{◌≤◌, IfOk, length};
 ghost use Rattle.accepted_netlist.specs.Known.{IsKept};
 ghost use Rattle.cert_check.specs.Outcome.{IsAccepted, IsFirstFault};
 ghost use Rattle.certificate.specs.Certificates.{most_bytes as most_certificate_bytes};
+ghost use Rattle.verify_question.specs.Asking.{IsAsked};
 ghost use Rattle.maskverif_cli.specs.Kept.{ChecksKept};
 
 use crate::reply::Reply;
@@ -12,11 +13,11 @@ use crate::status::Status;
 use accepted_netlist::Accepted;
 use cert_check::{Checked, accepted_is_certified, certified_is_proved};
 use certificate::Why;
-use command_words::Question;
 use count_law::soundness;
 use sequences::NoMemory;
 use std::alloc::Global;
 use tuple_rank::tuples_are_all;
+use verify_question::Question;
 
 /// The answer to a certificate that certifies the netlist's instance, with so many families.
 fn accepted(
@@ -72,8 +73,7 @@ pub fn check(
     bytes: &[u8],
 ) -> Result<Reply, NoMemory>
     requires kept { IsKept question.order netlist.now }
-    requires least { 1 ≤ question.order }
-    requires most { question.order ≤ 8 }
+    requires asked { IsAsked question }
     requires short { length bytes.now ≤ most_certificate_bytes }
     ensures { IfOk result (ChecksKept question netlist.now bytes.now) }
 {

@@ -6,19 +6,21 @@ ghost use Rattle.mv_files.specs.Disk.{IsWhole, SameFiles};
 ghost use Rattle.mv_files.specs.Told.{WhereTold};
 ghost use Rattle.maskverif_cli.specs.declared.status.Status.TheVariants as status;
 ghost use Rattle.command_words.specs.Commands.{check_request, verify_request};
+ghost use Rattle.verify_question.specs.Asking.{IsAsked};
 ghost use Rattle.maskverif_cli.specs.Answer.{AnswersCheck, AnswersVerify};
 ghost use Rattle.maskverif_cli.specs.Reply.{CountsReads, Ends, Halts, Lacks, MayFail};
 
 use crate::check::check;
 use crate::reply::{Halt, Reply, refused};
 use crate::status::Status;
-use crate::verify::{Way, accepted, verify};
+use crate::verify::{accepted, verify};
 use certificate::MOST_BYTES as MOST_CERTIFICATE_BYTES;
 use circuit_types::{Refusal, Which};
 use command_words::{Checking, Verification};
 use mv_files::{Files, ReadStop, read_whole};
 use rtlil_lex::MOST_BYTES;
 use std::alloc::Global;
+use worker_pool::Way;
 
 /// The answer where a file is missing.
 fn no_file(alloc: Global) -> Reply
@@ -64,8 +66,7 @@ pub fn verify_file<F: Files>(
     asked: Verification<'_>,
     files: &mut F,
 ) -> Result<Reply, Halt>
-    requires least { 1 ≤ asked.question.order }
-    requires most { asked.question.order ≤ 8 }
+    requires asked { IsAsked asked.question }
     requires crew { 1 ≤ asked.workers }
     ensures due { Ends (AnswersVerify (F.disk files.old) (verify_request asked.entry))
         (option_copied asked.entry.certificate) MayFail result }
@@ -93,8 +94,7 @@ pub fn check_files<F: Files>(
     asked: Checking<'_>,
     files: &mut F,
 ) -> Result<Reply, Halt>
-    requires least { 1 ≤ asked.question.order }
-    requires most { asked.question.order ≤ 8 }
+    requires { IsAsked asked.question }
     ensures due { Ends (AnswersCheck (F.disk files.old) (check_request asked.entry)) None MayFail result }
     ensures reads { CountsReads (F.read_faults files.old) (F.read_faults files.new) result }
     ensures writes { F.write_faults files.new ≡ F.write_faults files.old }

@@ -1,21 +1,24 @@
 //! The answers about gadgets that the program makes.
 
 ghost use Rattle.std.specs.Prelude.{◌≡◌, ◌≤◌, IfOk, None};
+ghost use Rattle.verify_question.specs.Asking.{IsAsked};
 ghost use Rattle.maskverif_cli.specs.Answer.{AnswersNetlist, IsMade};
 ghost use Rattle.maskverif_cli.specs.Gadgets.{gadget_text, trial_question};
 ghost use Rattle.maskverif_cli.specs.Reply.{CannotFail, Ends};
 
 use crate::reply::{Halt, Reply, refused};
 use crate::status::Status;
-use crate::verify::{Way, verify};
-use circuit_types::{Model, Refusal, Which};
-use command_words::{Gadget, Question};
+use crate::verify::verify;
+use circuit_types::{Model, Refusal, Timing, Which};
+use command_words::Gadget;
 use expr_table::Notion;
 use gadget_maker::make;
 use rtlil_lex::MOST_BYTES;
 use rtlil_print::print_tree;
 use sequences::NoMemory;
 use std::alloc::Global;
+use verify_question::Question;
+use worker_pool::Way;
 
 /// The text of a gadget's netlist.
 #[tactic(auto, unfolding(crate::specs::Gadgets::gadget_text))]
@@ -46,13 +49,13 @@ pub fn generate(alloc: Global, asked: Gadget) -> Result<Reply, Halt>
 fn trial_question(shares: u32) -> Question
     requires { 2 ≤ shares }
     ensures asked { result ≡ trial_question shares }
-    ensures least { 1 ≤ result.order }
-    ensures most { result.order ≤ 8 }
+    ensures sound { IsAsked result }
 {
     Question {
         notion: Notion::Probing,
         order: (shares - 1).min(2),
         model: Model::Glitch,
+        timing: Timing::Settled,
     }
 }
 

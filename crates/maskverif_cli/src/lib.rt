@@ -19,8 +19,6 @@ mod reply;
 mod report;
 mod run;
 mod status;
-#[cfg(test)]
-mod tests;
 mod verify;
 
 pub use certificate::Why;

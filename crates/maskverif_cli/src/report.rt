@@ -6,9 +6,9 @@ ghost use Rattle.maskverif_cli.specs.Report.{accepted_report, limit_words, line_
 
 use certificate::Why;
 use circuit_types::{Refusal, Which};
-use command_words::{Question, model_word, notion_word};
 use sequences::NoMemory;
 use std::alloc::Global;
+use verify_question::{Question, model_word, notion_word};
 
 const USAGE: &str =
     "usage: maskverif verify NOTION ORDER MODEL NETLIST [--workers N] [--certificate OUT] [--schedule SEED]
@@ -38,6 +38,7 @@ fn limit_words(which: Which) -> &'static str
         Which::Tuples => "14 Limit Tuples",
         Which::Terms => "14 Limit Terms",
         Which::CertificateBytes => "14 Limit CertificateBytes",
+        Which::Flat => "14 Limit Flat",
     }
 }
 
@@ -69,6 +70,12 @@ fn refusal_words(refusal: Refusal) -> &'static str
         Refusal::RegisterLoop { .. } => "21 RegisterLoop",
         Refusal::ResetNotHeld { .. } => "22 ResetNotHeld",
         Refusal::EnableNotHeld { .. } => "23 EnableNotHeld",
+        Refusal::ShareMixed { .. } => "24 ShareMixed",
+        Refusal::CoarseForm { .. } => "25 CoarseForm",
+        Refusal::NoModule { .. } => "26 NoModule",
+        Refusal::Recursion { .. } => "27 Recursion",
+        Refusal::InstancePort { .. } => "28 InstancePort",
+        Refusal::NameTwice { .. } => "29 NameTwice",
     }
 }
 
@@ -98,7 +105,13 @@ fn line_of(refusal: Refusal) -> Option<u32>
         | Refusal::GateLoop { line }
         | Refusal::RegisterLoop { line }
         | Refusal::ResetNotHeld { line }
-        | Refusal::EnableNotHeld { line } => Some(line),
+        | Refusal::EnableNotHeld { line }
+        | Refusal::ShareMixed { line }
+        | Refusal::CoarseForm { line }
+        | Refusal::NoModule { line }
+        | Refusal::Recursion { line }
+        | Refusal::InstancePort { line }
+        | Refusal::NameTwice { line } => Some(line),
     }
 }
 
@@ -124,8 +137,7 @@ pub struct Heading {
 
 /// The lines of a report on a netlist that say what was asked and how much was looked at.
 fn counts(alloc: Global, heading: Heading) -> Result<Vec<u8>, NoMemory>
-    ensures { let asked = heading.question in
-        IfOk result (λ text. text.items ≡ counts_of asked.notion asked.order asked.model heading.probes heading.tuples) }
+    ensures { IfOk result (λ text. text.items ≡ counts_of heading.question heading.probes heading.tuples) }
 {
     let notion = notion_word(heading.question.notion);
     let order = heading.question.order;
@@ -140,9 +152,7 @@ fn counts(alloc: Global, heading: Heading) -> Result<Vec<u8>, NoMemory>
 
 /// The report where each tuple is provable, with the number of families of the proof tree.
 pub fn secure(alloc: Global, heading: Heading, families: usize) -> Result<Vec<u8>, NoMemory>
-    ensures { let asked = heading.question in
-        IfOk result (λ text. text.items
-        ≡ secure_report asked.notion asked.order asked.model heading.probes heading.tuples families) }
+    ensures { IfOk result (λ text. text.items ≡ secure_report heading.question heading.probes heading.tuples families) }
 {
     let mut text = Vec::from_slice(alloc, b"Secure\n")?;
     text.extend_from_slice(counts(alloc, heading)?.as_slice())?;
@@ -158,9 +168,8 @@ pub fn unproved(
     rank: u64,
     lines: &[u8],
 ) -> Result<Vec<u8>, NoMemory>
-    ensures { let asked = heading.question in
-        IfOk result (λ text. (names : List (List ℕ)) → lines.now ≡ probe_lines names → text.items
-        ≡ unproved_report asked.notion asked.order asked.model heading.probes heading.tuples rank names) }
+    ensures { IfOk result (λ text. (names : List (List ℕ)) → lines.now ≡ probe_lines names
+        → text.items ≡ unproved_report heading.question heading.probes heading.tuples rank names) }
 {
     let mut text = Vec::from_slice(alloc, b"Unproved\n")?;
     text.extend_from_slice(counts(alloc, heading)?.as_slice())?;

@@ -3,9 +3,8 @@
 ghost use Rattle.std.specs.Prelude.{◌≡◌, ◌≤◌, ℕ, List, Option, None, Some, IfOk, IfErr, length};
 ghost use Rattle.std.specs.Option.{option_copied};
 ghost use Rattle.rtlil_lex.specs.Tokens.{most_bytes};
-ghost use Rattle.expr_table.specs.Instance.{IsFitting};
 ghost use Rattle.frontier_core.specs.Tree.{first_of, tree_of};
-ghost use Rattle.frontier_core.specs.Verdict.{IsVerdict as Finds};
+ghost use Rattle.verify_question.specs.Asking.{IsAsked};
 ghost use Rattle.accepted_netlist.specs.Known.{IsKept, Keeps};
 ghost use Rattle.cert_check.specs.Closing.{header_of};
 ghost use Rattle.maskverif_cli.specs.Answer.{AnswersNetlist};
@@ -21,35 +20,26 @@ use accepted_netlist::{Accepted, accept};
 use cert_check::{entries, preorder_closes};
 use certificate::{Header, MOST_BYTES, write};
 use circuit_types::{Refusal, Stop, Which};
-use command_words::Question;
 use count_law::soundness;
-use expr_table::Instance;
-use frontier_core::run_schedule;
 use live_rows::LiveRows;
 use once_random::proved_is_provable;
 use probe_family::Closed;
 use sequences::NoMemory;
 use std::alloc::Global;
-use tuple_rank::{Binomials, Tuple, tuples_are_all};
-use worker_pool::{Verdict, verify_one};
+use tuple_rank::{Tuple, tuples_are_all};
+use verify_question::Question;
+use worker_pool::{Verdict, Way, verify_by};
 
 /// The netlist whose text the bytes are, if it is accepted.
 pub fn accepted(alloc: Global, question: Question, bytes: &[u8]) -> Result<Accepted, Halt>
     requires short { length bytes.now ≤ most_bytes }
-    requires least { 1 ≤ question.order }
-    requires most { question.order ≤ 8 }
-    ensures accepted { IfOk result (Keeps question.notion question.order question.model bytes.now) }
+    requires asked { IsAsked question }
+    ensures accepted { IfOk result (Keeps question bytes.now) }
     ensures known { IfOk result (IsKept question.order) }
     ensures refused { IfErr result (λ halt. (wish : Option (List ℕ))
         → Halts (RefusesBytes question bytes.now) wish CannotFail halt) }
 {
-    match accept(
-        alloc,
-        bytes,
-        question.notion,
-        question.order,
-        question.model,
-    ) {
+    match accept(alloc, bytes, question) {
         Ok(netlist) => Ok(netlist),
         Err(Stop::Refused(refusal)) => Err(refused(alloc, refusal)),
         Err(Stop::NoMemory) => Err(Halt::NoMemory),
@@ -88,7 +78,7 @@ fn secure_report(
 /// What the certificate of an accepted netlist says of it.
 fn header(question: Question, netlist: &Accepted) -> Header
     requires { IsKept question.order netlist.now }
-    ensures { (bytes : List ℕ) → Keeps question.notion question.order question.model bytes netlist.now
+    ensures { (bytes : List ℕ) → Keeps question bytes netlist.now
         → result ≡ header_of netlist.now.instance question.model question.order }
 {
     Header {
@@ -192,35 +182,6 @@ fn unproved(
     })
 }
 
-/// How the tuples are searched: by so many workers in turn, as the seed of a schedule draws them; and on one thread where
-/// there is no schedule.
-#[derive(Clone, Copy)]
-pub struct Way {
-    pub workers: u32,
-    pub schedule: Option<u64>,
-}
-
-/// What a search of all tuples finds. It is the same whatever the way.
-fn search_by(
-    alloc: Global,
-    instance: &Instance,
-    counts: &Binomials,
-    order: u32,
-    way: Way,
-) -> Result<Verdict, NoMemory>
-    requires fitting { IsFitting instance.now }
-    requires counted { counts.now ≡ record { n = length instance.now.probes; t = order } }
-    requires least { 1 ≤ order }
-    requires most { order ≤ 8 }
-    requires crew { 1 ≤ way.workers }
-    ensures { IfOk result (Finds instance.now order) }
-{
-    match way.schedule {
-        Some(seed) => run_schedule(alloc, instance, counts, order, way.workers, seed),
-        None => verify_one(alloc, instance, counts, order),
-    }
-}
-
 /// What is answered to a netlist that is accepted.
 fn verdict(
     alloc: Global,
@@ -230,13 +191,12 @@ fn verdict(
     netlist: &Accepted,
 ) -> Result<Reply, Halt>
     requires kept { IsKept question.order netlist.now }
-    requires least { 1 ≤ question.order }
-    requires most { question.order ≤ 8 }
+    requires asked { IsAsked question }
     requires crew { 1 ≤ way.workers }
     ensures { EndsKept question (option_copied wish.entry) netlist.now result }
 {
     let order = question.order;
-    match search_by(alloc, &netlist.instance, &netlist.counts, order, way)? {
+    match verify_by(alloc, &netlist.instance, &netlist.counts, order, way)? {
         Verdict::Secure(closed) => proved(alloc, question, netlist, wish, closed.as_slice()),
         Verdict::Unproved(tuple) => {
             let reply = unproved(alloc, question, netlist, tuple)?;
@@ -254,8 +214,7 @@ pub fn verify(
     bytes: &[u8],
 ) -> Result<Reply, Halt>
     requires short { length bytes.now ≤ most_bytes }
-    requires least { 1 ≤ question.order }
-    requires most { question.order ≤ 8 }
+    requires asked { IsAsked question }
     requires crew { 1 ≤ way.workers }
     ensures { let name = option_copied wish.entry in
         Ends (AnswersNetlist question name bytes.now) name CannotFail result }

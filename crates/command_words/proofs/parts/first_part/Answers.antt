@@ -1,6 +1,6 @@
 use Rattle.std.proofs.Common.{◌≡◌, ℕ, ◌+◌, ◌<◌, ◌≤◌, List, ◌∷◌, length, sym, ap, ◌∙◌, subst, arith}
 use Rattle.command_words.specs.Names.{texts}
-use Rattle.command_words.specs.Reading.{BeginsWith}
+use Rattle.command_words.specs.Reading.{BeginsWithPart}
 use Rattle.command_words.proofs.Written.{NoPart, no_part_of_none}
 use Rattle.command_words.proofs.Uses.{if-some, if-none, is-none}
 use Rattle.command_words.proofs.parts.first_part.Goals as goal
@@ -15,9 +15,9 @@ returns-clause-begins c =
     let same : c.as_str.result.now ∷ texts c.in_ok-first.tail.now ≡ texts c.args.words.now =
     ap (λ (w : List ℕ). w ∷ texts c.in_ok-first.tail.now) c.as_str.ensures.value ∙ sym (ap texts split) in
     if-some c.part_from.result
-    (λ r. BeginsWith (c.as_str.result.now ∷ texts c.in_ok-first.tail.now) r.0 (texts r.1.now))
-    (λ r. BeginsWith (texts c.args.words.now) r.0 (texts r.1.now))
-    (λ r b. subst (λ (w : List (List ℕ)). BeginsWith w r.0 (texts r.1.now)) same b)
+    (λ r. BeginsWithPart (c.as_str.result.now ∷ texts c.in_ok-first.tail.now) r.0 (texts r.1.now))
+    (λ r. BeginsWithPart (texts c.args.words.now) r.0 (texts r.1.now))
+    (λ r b. subst (λ (w : List (List ℕ)). BeginsWithPart w r.0 (texts r.1.now)) same b)
     c.part_from.ensures.begins
 
 pub returns-clause-shorter : goal.returns-clause-shorter

@@ -2,7 +2,7 @@ use Rattle.std.proofs.Common.{◌≡◌, ℕ, ◌<◌, List, length, None, ap, �
 use Rattle.rtlil_lex.specs.Tokens.{most_bytes}
 use Rattle.circuit_types.specs.declared.refusal.Refusal.TheVariants.{Limit}
 use Rattle.circuit_types.specs.declared.refusal.Which.TheVariants.{FileBytes}
-use Rattle.command_words.specs.declared.command.Question.{Question}
+use Rattle.verify_question.specs.declared.question.Question.{Question}
 use Rattle.maskverif_cli.specs.Answer.{AnswersNetlist, Refuses}
 use Rattle.maskverif_cli.specs.Gadgets.{gadget_text, trial_question}
 use Rattle.maskverif_cli.specs.Reply.{Ends}

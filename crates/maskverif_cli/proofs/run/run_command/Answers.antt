@@ -6,7 +6,7 @@ use Rattle.maskverif_cli.specs.declared.status.Status.TheVariants.{Usage}
 use Rattle.maskverif_cli.specs.Answer.{AnswersCheck, AnswersNetlist, AnswersVerify, IsDueTo, IsMade, usage}
 use Rattle.maskverif_cli.specs.Gadgets.{gadget_text, trial_question}
 use Rattle.maskverif_cli.specs.Reply.{MayFail}
-use Rattle.maskverif_cli.proofs.Asked.{checked-order, made-shares, modest, tried-shares}
+use Rattle.maskverif_cli.proofs.Asked.{checked-question, made-shares, modest, tried-shares}
 use Rattle.maskverif_cli.proofs.Ending.{concluded, delivered, no-reads, sends-alone, unread}
 use Rattle.maskverif_cli.proofs.Replies.{ends-as}
 use Rattle.maskverif_cli.proofs.run.run_command.Goals as goal
@@ -22,7 +22,7 @@ verify_file-end-requires g c =
     let words = texts c.args.words.now in
     let asks = subst (λ (command : Command). Means words (request_of command)) c.in-Verify.is c.in-Some.ensures.taken in
     let limits = modest words (verify_request c.in-Verify.asked) asks in
-    record { least = limits.least; most = limits.most; crew = limits.crew }
+    record { asked = limits.question; crew = limits.crew }
 
 pub returns-in-Verify : goal.returns-in-Verify
 returns-in-Verify g c =
@@ -40,8 +40,7 @@ pub check_files-end-requires : goal.check_files-end-requires
 check_files-end-requires g c =
     let words = texts c.args.words.now in
     let asks = subst (λ (command : Command). Means words (request_of command)) c.in-Check.is c.in-Some.ensures.taken in
-    let limits = checked-order words (check_request c.in-Check.asked) asks in
-    record { least = limits.least; most = limits.most }
+    checked-question words (check_request c.in-Check.asked) asks
 
 pub returns-in-Check : goal.returns-in-Check
 returns-in-Check g c =

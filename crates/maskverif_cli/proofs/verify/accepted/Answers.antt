@@ -11,5 +11,5 @@ returns-in-Err-Refused-clause-refused c wish =
     let asked = c.args.question in
     let bytes = c.args.bytes.now in
     let refusal = c.in-Err-Refused.refusal in
-    let due = subst (IsRefusal (HasRefusal asked.notion asked.order asked.model bytes)) c.in-Err-Refused.field-0-is c.in-Err-Refused.ensures.refused in
+    let due = subst (IsRefusal (HasRefusal asked bytes)) c.in-Err-Refused.field-0-is c.in-Err-Refused.ensures.refused in
     halts-as (Refuses refusal) (RefusesBytes asked bytes) wish ⊥ ⊥ (λ s t f h. (refusal, due, h)) (λ none. none) c.refused.result (c.refused.ensures wish)

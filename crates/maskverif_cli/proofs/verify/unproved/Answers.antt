@@ -28,8 +28,8 @@ returns c wish bytes keeps =
     let lines = c.as_slice.ensures.value ∙ c.in_ok-lines.ensures in
     let ranked = subst (λ (s : TupleSpace). slice_get (tuples s.n s.t) c.rank-rank.result ≡ Some c.args.tuple.items) c.requires.kept.counted c.rank-rank.ensures.place in
     let written = c.in_ok-text.ensures names lines
-    ∙ ap (λ (h : Heading). unproved_report h.question.notion h.question.order h.question.model h.probes h.tuples c.rank-rank.result names) c.heading.ensures in
+    ∙ ap (λ (h : Heading). unproved_report h.question h.probes h.tuples c.rank-rank.result names) c.heading.ensures in
     unproved-plain asked wish bytes c.args.tuple c.in_ok-text.text.items
-    (unproved-is asked.notion asked.order asked.model bytes kept keeps
+    (unproved-is asked bytes kept keeps
     (λ tuple. c.proved_is_provable.ensures kept.instance tuple c.requires.kept.table c.requires.kept.fitting)
     c.rank-rank.result c.args.tuple.items c.in_ok-text.text.items c.requires.first ranked written)
