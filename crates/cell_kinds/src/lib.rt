@@ -9,8 +9,6 @@ mod kind;
 mod laws;
 mod names;
 mod ports;
-#[cfg(test)]
-mod tests;
 mod value;
 
 pub use kind::{CellKind, Flop, GateKind, Reset};

@@ -1,5 +1,5 @@
 -- Which refusal is due: of the causes in their order the first that holds somewhere, at its least line.
-use Rattle.std.specs.Prelude.{◌≡◌, ℕ, ◌≤◌, ◌⊎◌, List, [], ◌∷◌}
+use Rattle.std.specs.Prelude.{◌≡◌, ℕ, ◌≤◌, ◌⊎◌, List, [], ◌∷◌, Option, Some, None, min}
 use Rattle.circuit_types.specs.declared.refusal.Refusal.{Refusal}
 
 -- A cause of a refusal: either one that holds at lines, or one that holds of the whole and has no line.
@@ -15,6 +15,22 @@ Never holds = (line : ℕ) → holds line → ⊥
 pub record IsLeast (holds : ℕ → Type 0) (line : ℕ) : Type 0 where
   pub here : holds line
   pub least : (other : ℕ) → holds other → line ≤ other
+
+-- the least line at which it holds, or none where it never holds
+abbrev pub IsLeastLine : (ℕ → Type 0) → Option ℕ → Type 0
+IsLeastLine holds None = Never holds
+IsLeastLine holds (Some line) = IsLeast holds line
+
+-- the lesser of two numbers, where there are two
+abbrev pub earlier_of : Option ℕ → Option ℕ → Option ℕ
+earlier_of None other = other
+earlier_of (Some one) None = Some one
+earlier_of (Some one) (Some other) = Some (min one other)
+
+-- the least of some numbers
+unfoldable pub least_of : List ℕ → Option ℕ
+least_of [] = None
+least_of (x ∷ xs) = earlier_of (Some x) (least_of xs)
 
 -- the cause does not hold
 abbrev pub IsSilent : Cause → Type 0

@@ -19,11 +19,13 @@ items_of (Some unit) = unit.items
 abbrev pub top_items : Tree → List Item
 top_items tree = items_of (option_and_then (λ k. slice_get tree.modules k) (top_of tree))
 
+-- the wires among the items, in their order
 abbrev pub wires : List Item → List Wire
 wires [] = []
 wires (item.Wire w ∷ items) = w ∷ wires items
 wires (other ∷ items) = wires items
 
+-- the cells among the items, in their order
 abbrev pub cells : List Item → List Cell
 cells [] = []
 cells (item.Cell c ∷ items) = c ∷ cells items

@@ -88,9 +88,11 @@ cell_lines test items = map (λ c. c.line) (filter test (kept_cells items))
 abbrev pub link_lines : (Link → Bool) → List NetWire → List Item → List ℕ
 link_lines test ws items = map (λ l. l.line) (filter test (links ws items))
 
+-- the most bits that the wires of the top module may have
 abbrev pub most_bits : ℕ
 most_bits = 1048576
 
+-- the most cells that the top module may have
 abbrev pub most_cells : ℕ
 most_cells = 1048576
 

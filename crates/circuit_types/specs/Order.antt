@@ -77,6 +77,7 @@ pub record IsOrder (reads : NetCell → List Source) (nets : Nets) (cells : List
   pub once : (i : ℕ) → i < length cells → IsTrue (not (has (take i cells) (slice_index cells i)))
   pub after : StandsAfter reads nets cells
 
+-- the order that is computed is one: each cell stands after the cells that it reads
 abbrev pub OrderStandsAfter : Type 0
 OrderStandsAfter = (reads : NetCell → List Source) (nets : Nets) → IsOrder reads nets (order_of reads nets)
 
@@ -88,6 +89,7 @@ AllSettled timing nets = (k : ℕ) → k < length nets.cells → IsTrue (is_sett
 abbrev pub AllLevelled : Nets → Type 0
 AllLevelled nets = (k : ℕ) → k < length nets.cells → IsTrue (is_levelled nets k)
 
+-- where each cell is settled, each gate is levelled
 abbrev pub SettledIsLevelled : Type 0
 SettledIsLevelled = (timing : Timing) (nets : Nets) → AllSettled timing nets → AllLevelled nets
 

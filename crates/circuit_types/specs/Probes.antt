@@ -77,6 +77,7 @@ unfoldable pub probe_list : Model → Roles → Circuit → List Probe
 probe_list m roles circuit =
     flat_map (λ c. map (probe_on m roles circuit.nets circuit.timing c) (probed_sources roles circuit.nets)) (range_with_len 0 (cycles circuit.timing))
 
+-- the most probes that there may be
 abbrev pub most_probes : ℕ
 most_probes = 65535
 

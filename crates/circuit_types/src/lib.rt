@@ -45,6 +45,3 @@ pub use top_module::top;
 pub use tree::{
     Attribute, Cell, Connect, Item, Module, Parameter, ParameterForm, Port, PortConnect, Tree, Wire,
 };
-
-#[cfg(test)]
-mod tests;

@@ -26,11 +26,14 @@ pub enum Which {
     Terms,
     /// More than 268,435,456 bytes in the certificate file.
     CertificateBytes,
+    /// More than 4,194,304 wires, connects, cells and replaced instances in a flattened netlist.
+    Flat,
 }
 
 /// Why a netlist is not accepted; the first cause in this order is answered, `BadForm` and
-/// `UnsupportedStatement` by their place in the file. A line's number is one more than the line feeds before
-/// it; each cause has the least line at which it stands.
+/// `UnsupportedStatement` by their place in the file, and each limit at its own place. Of the last six, which no step
+/// gives yet, `ShareMixed` stands before the number of tuples and the others before the number of bits. A line's number
+/// is one more than the line feeds before it; each cause has the least line at which it stands.
 #[derive(Clone, Copy, Debug, PartialEq, Eq)]
 pub enum Refusal {
     /// A byte begins no token, or a string is not closed on its line.
@@ -80,6 +83,18 @@ pub enum Refusal {
     ResetNotHeld { line: u32 },
     /// A register's enable is not held active.
     EnableNotHeld { line: u32 },
+    /// Output share bits of two indices end at the source of one probe.
+    ShareMixed { line: u32 },
+    /// A word cell lacks what its kind needs, or does not fit it.
+    CoarseForm { line: u32 },
+    /// A cell whose kind begins with a backslash and is no module of the file.
+    NoModule { line: u32 },
+    /// An instance of a module that is the one it stands in or contains it.
+    Recursion { line: u32 },
+    /// An instance has a parameter, a connect to what is no port of its module, or a signal of another width.
+    InstancePort { line: u32 },
+    /// Two wires or two cells get one name once instances are replaced.
+    NameTwice { line: u32 },
 }
 
 /// Why a step from the text to the verdict stopped.

@@ -48,6 +48,7 @@ pairs_before d (suc i) = pairs_before d i + (d - 1 - i)
 abbrev pub pair_number : ℕ → ℕ → ℕ → ℕ
 pair_number d i j = pairs_before d i + (j - i - 1)
 
+-- the product of two shares, masked with this random
 abbrev pub crossing : ℕ → ℕ → ℕ → Crossing
 crossing i j random = record { first = i; second = j; random = random }
 

@@ -17,6 +17,3 @@ mod wires;
 
 pub use gadget::make;
 pub use laws::{gadgets_are_printable, mirrors_have_one_random, pairs_are_numbered_in_order};
-
-#[cfg(test)]
-mod tests;

@@ -19,6 +19,3 @@ mod sources;
 
 pub use laws::limits;
 pub use probing::{MOST_PROBES, MOST_SEEN, probes};
-
-#[cfg(test)]
-mod tests;

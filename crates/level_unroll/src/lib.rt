@@ -11,6 +11,3 @@ mod queue;
 mod unroll;
 
 pub use unroll::levels;
-
-#[cfg(test)]
-mod tests;

@@ -90,5 +90,6 @@ pub record LongFile (name : List ℕ) (limit : ℕ) (disk : Disk) : Type 0 where
   pub there : file_of name disk ≡ Some bytes
   pub longer : limit < length bytes
 
+-- where the disk is told, its file of this name is longer than the limit
 abbrev pub IsLonger : List ℕ → Option Disk → ℕ → Type 0
 IsLonger name disk limit = IfSome disk (LongFile name limit)

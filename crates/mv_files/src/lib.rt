@@ -20,8 +20,6 @@ mod memory_sink;
 mod send;
 mod sink;
 mod stored_file;
-#[cfg(test)]
-mod tests;
 mod whole;
 mod write;
 

@@ -12,6 +12,3 @@ mod table;
 
 pub use sequences::NoMemory;
 pub use table::NameTable;
-
-#[cfg(test)]
-mod tests;

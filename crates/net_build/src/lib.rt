@@ -25,6 +25,3 @@ mod wires;
 
 pub use laws::each_bit_is_of_a_wire;
 pub use nets::{build, name_of};
-
-#[cfg(test)]
-mod tests;

@@ -23,6 +23,3 @@ pub use fault::LexFault;
 pub use laws::{limits, no_token, one_form, one_list, one_outcome};
 pub use lexer::lex;
 pub use token::{Token, TokenKind};
-
-#[cfg(test)]
-mod tests;

@@ -15,6 +15,3 @@ mod wire;
 
 pub use laws::{lines_are_not_printed, reads_as_printed, what_stands_is_printable};
 pub use print::print_tree;
-
-#[cfg(test)]
-mod tests;

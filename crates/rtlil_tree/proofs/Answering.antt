@@ -13,7 +13,7 @@ use Rattle.circuit_types.specs.declared.tree.Tree.{Tree}
 use Rattle.rtlil_tree.specs.Lines.{lines_of, AreLines}
 use Rattle.rtlil_tree.specs.Text.{Stands}
 use Rattle.rtlil_tree.specs.Refusals.{IsRefused}
-use Rattle.rtlil_tree.specs.Reading.{fault_stop, has_top, topped, ReadsStatements, ReadsText}
+use Rattle.rtlil_tree.specs.Inner.Reading.{fault_stop, has_top, topped, ReadsStatements, ReadsText}
 use Rattle.rtlil_tree.proofs.Standing.{tree_if_run, refused_if_run, same_tree, same_refusal, no_refusal}
 use Rattle.rtlil_tree.specs.Answers.{StandsWithTop, HasStop, AnswersTree, AnswersRefusal}
 

@@ -14,9 +14,9 @@ use Rattle.rtlil_tree.specs.declared.line.Line.{Line}
 use Rattle.rtlil_tree.specs.declared.cell_body.CellBody.{CellBody}
 use Rattle.rtlil_tree.specs.declared.statements.CellStatement.{CellStatement}
 use Rattle.rtlil_tree.specs.Forms.{CellForm, cell_parameter, cell_ends, cell_view}
-use Rattle.rtlil_tree.specs.Cursor.{line_view, Rest, IsRest, GoesOn, IsTaken}
+use Rattle.rtlil_tree.specs.Inner.Cursor.{line_view, Rest, IsRest, GoesOn, IsTaken}
 use Rattle.rtlil_tree.specs.Machine.{within, step, cell_step}
-use Rattle.rtlil_tree.specs.Reading.{StopsAt, run_on, with_parts, HasItsPorts, ReadsCellLine, CellStepsTo, in_cell, past_cell, ReadsCell}
+use Rattle.rtlil_tree.specs.Inner.Reading.{StopsAt, run_on, with_parts, HasItsPorts, ReadsCellLine, CellStepsTo, in_cell, past_cell, ReadsCell}
 use Rattle.rtlil_tree.proofs.Moves.{IsNext, IsLast, goes_nowhere, goes_far, same_rest, moves, ends, stops_by, stops_taken, stops_run, stops_from, stops_short}
 
 -- the lines left and the body so far give what all lines give

@@ -7,8 +7,8 @@ use Rattle.rtlil_lex.specs.declared.token.Token.{Token}
 use Rattle.rtlil_tree.specs.declared.part.Part.{Part}
 use Rattle.rtlil_tree.specs.Lines as text
 use Rattle.rtlil_tree.specs.Lines.{spelled, line_of, lines_of}
-use Rattle.rtlil_tree.specs.Parts.{moved}
-use Rattle.rtlil_tree.specs.Cursor.{is_inner, left_in}
+use Rattle.rtlil_tree.specs.Inner.Parts.{moved}
+use Rattle.rtlil_tree.specs.Inner.Cursor.{is_inner, left_in}
 use Rattle.rtlil_tree.proofs.LineLemmas.{lines_cut, lines_whole}
 
 -- the tokens before the first end of line are a line, which may have none, and those behind it the others

@@ -16,12 +16,12 @@ use Rattle.rtlil_tree.specs.declared.line.Line.{Line}
 use Rattle.rtlil_tree.specs.declared.file_body.FileBody.{FileBody}
 use Rattle.rtlil_tree.specs.declared.statements.FileStatement.{FileStatement}
 use Rattle.rtlil_tree.specs.Names.{is_among, module_names}
-use Rattle.rtlil_tree.specs.Seen.{HasOneMore}
+use Rattle.rtlil_tree.specs.Inner.Seen.{HasOneMore}
 use Rattle.rtlil_tree.specs.Forms.{FileForm, autoidx, attribute, begins, file_view}
-use Rattle.rtlil_tree.specs.Cursor.{line_view, Rest, IsRest, GoesOn, ReadsWhole, IsTaken}
+use Rattle.rtlil_tree.specs.Inner.Cursor.{line_view, Rest, IsRest, GoesOn, ReadsWhole, IsTaken}
 use Rattle.rtlil_tree.specs.Machine as machine
 use Rattle.rtlil_tree.specs.Machine.{State, start, file, inside, step, file_step, has_some, with_items, module_begun, finish}
-use Rattle.rtlil_tree.specs.Reading.{StopsAt, run_on, run_from, ReadsModule, HasItsModules, ReadsFileLine, in_file, FileRunsTo, ReadsFile}
+use Rattle.rtlil_tree.specs.Inner.Reading.{StopsAt, run_on, run_from, ReadsModule, HasItsModules, ReadsFileLine, in_file, FileRunsTo, ReadsFile}
 use Rattle.rtlil_tree.proofs.Moves.{IsNext, IsLast, goes_nowhere, goes_far, same_rest, moves, ends, stops_by, stops_as, stops_taken, stops_run, stops_short, is_new, one_more, unless_bad, unless_good}
 
 -- the lines left and the body so far give what all lines give

@@ -7,7 +7,7 @@ use Rattle.rtlil_lex.specs.declared.token.Token.{Token}
 use Rattle.rtlil_tree.specs.Lexemes.{Lexeme}
 use Rattle.rtlil_tree.specs.Lines.{is_eol, with_first, cut, spelled, line_of, all_lines, lines_of}
 use Rattle.rtlil_tree.specs.Said.{◌>>=◌, said_by, lexemes_of}
-use Rattle.rtlil_tree.specs.Cursor.{is_inner}
+use Rattle.rtlil_tree.specs.Inner.Cursor.{is_inner}
 
 -- ---- cutting
 

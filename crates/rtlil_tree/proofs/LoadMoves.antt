@@ -3,8 +3,8 @@ use Rattle.std.proofs.Common.{◌≡◌, ℕ, ◌<◌, ◌≤◌, Bool, true, fa
 use Rattle.circuit_types.specs.declared.refusal.Stop.{Stop}
 use Rattle.rtlil_tree.specs.declared.lines.Lines.{Lines}
 use Rattle.rtlil_tree.specs.Lines as text
-use Rattle.rtlil_tree.specs.Parts.{HasTokens}
-use Rattle.rtlil_tree.specs.Cursor.{current_of, left_in, tokens_left, Rest, IsRest, left_of, work_of, GoesOn, IsLoaded, Takes, IsTaken}
+use Rattle.rtlil_tree.specs.Inner.Parts.{HasTokens}
+use Rattle.rtlil_tree.specs.Inner.Cursor.{current_of, left_in, tokens_left, Rest, IsRest, left_of, work_of, GoesOn, IsLoaded, Takes, IsTaken}
 use Rattle.rtlil_tree.proofs.Moves.{goes_nowhere, goes_far, same_rest}
 
 -- ---- within a part

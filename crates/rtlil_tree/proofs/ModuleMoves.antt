@@ -22,12 +22,12 @@ use Rattle.rtlil_tree.specs.declared.cell_body.CellBody.{CellBody}
 use Rattle.rtlil_tree.specs.declared.module_body.ModuleBody.{ModuleBody}
 use Rattle.rtlil_tree.specs.declared.statements.ModuleStatement.{ModuleStatement}
 use Rattle.rtlil_tree.specs.Names.{is_among, wire_name, cell_name, wire_names, cell_names}
-use Rattle.rtlil_tree.specs.Seen.{HasOneMore}
+use Rattle.rtlil_tree.specs.Inner.Seen.{HasOneMore}
 use Rattle.rtlil_tree.specs.Forms.{ModuleForm, attribute_in, cell_begins, ends, module_view}
-use Rattle.rtlil_tree.specs.Cursor.{line_view, Rest, IsRest, GoesOn, IsTaken}
+use Rattle.rtlil_tree.specs.Inner.Cursor.{line_view, Rest, IsRest, GoesOn, IsTaken}
 use Rattle.rtlil_tree.specs.Machine as machine
 use Rattle.rtlil_tree.specs.Machine.{State, inside, within, step, module_step, wire_step, has_some, with_items, wire_made, cell_begun}
-use Rattle.rtlil_tree.specs.Reading.{StopsAt, run_on, run_from, with_parts, ReadsCell, HasItsNames, ReadsModuleLine, in_module, form_step, ModuleStepsTo, ModuleRunsTo, past_module, ReadsModule}
+use Rattle.rtlil_tree.specs.Inner.Reading.{StopsAt, run_on, run_from, with_parts, ReadsCell, HasItsNames, ReadsModuleLine, in_module, form_step, ModuleStepsTo, ModuleRunsTo, past_module, ReadsModule}
 use Rattle.rtlil_tree.proofs.Moves.{IsNext, IsLast, goes_nowhere, goes_far, same_rest, moves, stops_by, stops_as, stops_taken, stops_run, stops_from, stops_short, one_more, still_same, was_seen, is_new, unless_bad, unless_good}
 use Rattle.rtlil_tree.proofs.Moves as on
 

@@ -10,10 +10,10 @@ use Rattle.rtlil_tree.specs.declared.lines.Lines.{Lines}
 use Rattle.rtlil_tree.specs.declared.line.Line as code
 use Rattle.rtlil_tree.specs.Lines.{Line}
 use Rattle.rtlil_tree.specs.Names.{is_among}
-use Rattle.rtlil_tree.specs.Seen.{HasOneMore, HaveSameNames}
-use Rattle.rtlil_tree.specs.Cursor.{line_view, current_of, Rest, IsRest, left_of, GoesOn, IsTaken}
+use Rattle.rtlil_tree.specs.Inner.Seen.{HasOneMore, HaveSameNames}
+use Rattle.rtlil_tree.specs.Inner.Cursor.{line_view, current_of, Rest, IsRest, left_of, GoesOn, IsTaken}
 use Rattle.rtlil_tree.specs.Machine.{State, step, finish, run, unless, bad_form}
-use Rattle.rtlil_tree.specs.Reading.{StopsAt, LeadsTo, run_on, run_from}
+use Rattle.rtlil_tree.specs.Inner.Reading.{StopsAt, LeadsTo, run_on, run_from}
 
 -- ---- lines
 

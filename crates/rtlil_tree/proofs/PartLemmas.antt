@@ -15,8 +15,8 @@ use Rattle.rtlil_tree.specs.declared.part.Part.{Part}
 use Rattle.rtlil_tree.specs.declared.lines.Lines.{Lines}
 use Rattle.rtlil_tree.specs.Lines as text
 use Rattle.rtlil_tree.specs.Lines.{lines_of}
-use Rattle.rtlil_tree.specs.Parts.{BeginsLine, IsPart, moved, HasTokens}
-use Rattle.rtlil_tree.specs.Cursor.{last_line, part_stop, left_in, tokens_left, IsPartOf, Rest, IsRest, IsCut, work_of}
+use Rattle.rtlil_tree.specs.Inner.Parts.{BeginsLine, IsPart, moved, HasTokens}
+use Rattle.rtlil_tree.specs.Inner.Cursor.{last_line, part_stop, left_in, tokens_left, IsPartOf, Rest, IsRest, IsCut, work_of}
 use Rattle.rtlil_tree.proofs.PartsFacts.{join, line_on}
 use Rattle.rtlil_tree.proofs.TextMoves.{ends_at}
 

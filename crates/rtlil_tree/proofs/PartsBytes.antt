@@ -8,7 +8,7 @@ use Rattle.std.proofs.lemmas.List.Sums.{sum_by-append, count_by_more_yes}
 use Rattle.rtlil_lex.specs.Bytes.{is_feed}
 use Rattle.rtlil_lex.specs.Tokens.{IsGap, line_at}
 use Rattle.rtlil_lex.proofs.Lines.{line_after_gap}
-use Rattle.rtlil_tree.specs.Parts.{BeginsLine}
+use Rattle.rtlil_tree.specs.Inner.Parts.{BeginsLine}
 
 -- ---- parts of parts
 

@@ -4,7 +4,7 @@ use Rattle.std.specs.Prelude.{slice_range}
 use Rattle.rtlil_lex.specs.Tokens.{AreTokens, line_at}
 use Rattle.rtlil_lex.specs.declared.token.Token.{Token}
 use Rattle.rtlil_tree.specs.Lines.{lines_of}
-use Rattle.rtlil_tree.specs.Parts.{IsPart, ahead_of, AreAhead, HasTokens}
+use Rattle.rtlil_tree.specs.Inner.Parts.{IsPart, ahead_of, AreAhead, HasTokens}
 use Rattle.rtlil_tree.proofs.PartsBytes as places
 use Rattle.rtlil_tree.proofs.PartsJoin.{join_parts, no_bytes}
 use Rattle.rtlil_tree.proofs.PartsSplit.{from_start, split_parts}

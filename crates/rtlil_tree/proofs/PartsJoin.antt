@@ -5,7 +5,7 @@ use Rattle.std.proofs.lemmas.Bool.{cases_lt}
 use Rattle.rtlil_lex.specs.Tokens.{IsGap, line_at, LeadTo}
 use Rattle.rtlil_lex.specs.declared.token.Token.{Token}
 use Rattle.rtlil_lex.specs.declared.token.TokenKind.TheVariants.{Eol}
-use Rattle.rtlil_tree.specs.Parts.{BeginsLine, IsPart, HasTokens}
+use Rattle.rtlil_tree.specs.Inner.Parts.{BeginsLine, IsPart, HasTokens}
 use Rattle.rtlil_tree.proofs.PartsBytes.{slice_end, drop_front, begins_front, gap_stops}
 use Rattle.rtlil_tree.proofs.PartsLeads.{lead_order, lead_append, lead_in_all, lead_behind, down_by}
 

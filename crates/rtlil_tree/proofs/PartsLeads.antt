@@ -8,7 +8,7 @@ use Rattle.rtlil_lex.specs.Forms.{IsLongest}
 use Rattle.rtlil_lex.specs.Tokens.{IsGap, line_at, ComesNext, LeadTo}
 use Rattle.rtlil_lex.specs.declared.token.Token.{Token}
 use Rattle.rtlil_lex.specs.declared.token.TokenKind.TheVariants.{Eol}
-use Rattle.rtlil_tree.specs.Parts.{BeginsLine}
+use Rattle.rtlil_tree.specs.Inner.Parts.{BeginsLine}
 use Rattle.rtlil_tree.proofs.PartsBytes.{drop_in, slice_in, drop_front, slice_front, slice_rest, line_in, line_more, gap_stops}
 use Rattle.rtlil_tree.proofs.PartsTokens.{gap_in_front, gap_in_all, longest_in_front, longest_in_all, token_within, token_stops}
 

@@ -8,7 +8,7 @@ use Rattle.rtlil_lex.specs.Tokens.{line_at, LeadTo}
 use Rattle.rtlil_lex.specs.declared.token.Token.{Token}
 use Rattle.rtlil_tree.specs.Lexemes.{Spelled}
 use Rattle.rtlil_tree.specs.Lines.{Line, is_eol, with_first, cut, spelled, line_of, all_lines, lines_of}
-use Rattle.rtlil_tree.specs.Parts.{moved}
+use Rattle.rtlil_tree.specs.Inner.Parts.{moved}
 use Rattle.rtlil_tree.proofs.PartsBytes.{slice_in, line_in}
 use Rattle.rtlil_tree.proofs.PartsTokens.{token_within}
 use Rattle.rtlil_tree.proofs.PartsLeads.{up_by, lead_order, IsClosed}

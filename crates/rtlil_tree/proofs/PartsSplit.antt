@@ -10,7 +10,7 @@ use Rattle.rtlil_lex.specs.declared.fault.LexFault.{LexFault}
 use Rattle.rtlil_lex.specs.declared.fault.LexFault.TheVariants.{BadByte, OpenString, NoMemory}
 use Rattle.rtlil_lex.proofs.Once.{same_tokens, tokens_or_bad, tokens_or_open}
 use Rattle.rtlil_tree.specs.Lines.{Line, is_eol, lines_of}
-use Rattle.rtlil_tree.specs.Parts.{BeginsLine, IsPart, moved, ahead_of, AreAhead}
+use Rattle.rtlil_tree.specs.Inner.Parts.{BeginsLine, IsPart, moved, ahead_of, AreAhead}
 use Rattle.rtlil_tree.proofs.PartsBytes.{drop_in, slice_end, slice_none}
 use Rattle.rtlil_tree.proofs.PartsTokens.{token_within}
 use Rattle.rtlil_tree.proofs.PartsLeads.{up_by, lead_order, lead_in_part, halves}

@@ -11,7 +11,7 @@ use Rattle.rtlil_lex.specs.declared.token.TokenKind.{TokenKind}
 use Rattle.rtlil_lex.specs.declared.token.TokenKind.TheVariants.{Word, Id, Int, Bits, Str, Mark, Eol}
 use Rattle.rtlil_lex.proofs.Once.{some_size}
 use Rattle.rtlil_lex.proofs.Lines.{line_after_token}
-use Rattle.rtlil_tree.specs.Parts.{BeginsLine}
+use Rattle.rtlil_tree.specs.Inner.Parts.{BeginsLine}
 use Rattle.rtlil_tree.proofs.PartsBytes.{line_between, gap_stops}
 
 -- ---- gaps

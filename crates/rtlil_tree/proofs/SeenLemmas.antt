@@ -8,8 +8,8 @@ use Rattle.std.proofs.lemmas.List.{drop-append-le, drop_all, take_all, take-appe
 use Rattle.name_table.specs.Names.{value_of, HasAlso}
 use Rattle.circuit_types.specs.declared.tree.PortConnect.{PortConnect}
 use Rattle.rtlil_tree.specs.Names.{is_among, port_names}
-use Rattle.rtlil_tree.specs.Seen.{HasOneMore, HaveSameNames}
-use Rattle.rtlil_tree.specs.Reading.{late}
+use Rattle.rtlil_tree.specs.Inner.Seen.{HasOneMore, HaveSameNames}
+use Rattle.rtlil_tree.specs.Inner.Reading.{late}
 
 abbrev pub Table : Type 0
 Table = List (List ℕ × Unit {0})

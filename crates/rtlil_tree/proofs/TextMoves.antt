@@ -12,10 +12,10 @@ use Rattle.circuit_types.specs.declared.tree.Tree.{Tree}
 use Rattle.rtlil_tree.specs.declared.lines.Lines.{Lines}
 use Rattle.rtlil_tree.specs.Lines as text
 use Rattle.rtlil_tree.specs.Lines.{lines_of}
-use Rattle.rtlil_tree.specs.Parts.{ahead_of, HasTokens}
-use Rattle.rtlil_tree.specs.Cursor.{last_line, line_number, Rest, IsRest, IsBegun, ReadsWhole}
+use Rattle.rtlil_tree.specs.Inner.Parts.{ahead_of, HasTokens}
+use Rattle.rtlil_tree.specs.Inner.Cursor.{last_line, line_number, Rest, IsRest, IsBegun, ReadsWhole}
 use Rattle.rtlil_tree.specs.Machine.{start, run}
-use Rattle.rtlil_tree.specs.Reading.{LeadsTo, ReadsFile, IsDueFor, ReadsText}
+use Rattle.rtlil_tree.specs.Inner.Reading.{LeadsTo, ReadsFile, IsDueFor, ReadsText}
 use Rattle.rtlil_tree.proofs.PartsFacts.{split, starts, none}
 
 -- the text has these tokens

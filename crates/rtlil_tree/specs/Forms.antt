@@ -99,6 +99,7 @@ signals_from s skipped [] = finished s.around s.inner
 signals_from s (suc skipped) (x ∷ xs) = signals_from s skipped xs
 signals_from s zero (x ∷ xs) = piece_at x xs >>= λ p. moved s p.0 >>= λ t. signals_from t (p.1 - 1) xs
 
+-- the signals that words are, one after the other, where they are signals and nothing else
 abbrev pub signals_of : List Lexeme → Option (List Signal)
 signals_of xs = signals_from (with_inner [] []) 0 xs
 
@@ -184,16 +185,19 @@ options_from o zero (x ∷ xs) =
 
 -- ---- the forms, by place
 
+-- a statement between modules, as what it says
 pub data FileForm : Type 0 where
   autoidx : ℤ → FileForm
   attribute : Attribute → FileForm
   begins : List ℕ → FileForm
 
+-- what a wire statement says: its name, its direction and its options
 pub record WireForm : Type 0 where
   pub name : List ℕ
   pub port : Port
   pub options : Options
 
+-- a statement of a module, as what it says
 pub data ModuleForm : Type 0 where
   attribute_in : Attribute → ModuleForm
   parameter : Parameter → ModuleForm
@@ -202,6 +206,7 @@ pub data ModuleForm : Type 0 where
   connect : Connect → ModuleForm
   ends : ModuleForm
 
+-- a statement of a cell, as what it says
 pub data CellForm : Type 0 where
   cell_parameter : Parameter → CellForm
   port_connect : List ℕ → Signal → CellForm
@@ -222,6 +227,7 @@ abbrev pub begins_of : List Lexeme → Option FileForm
 begins_of (id name ∷ []) = Some (begins name)
 begins_of xs = None
 
+-- what the words of a statement between modules say, where they are one
 abbrev pub file_form_of : List Lexeme → Option FileForm
 file_form_of (key word.Autoidx ∷ xs) = autoidx_of xs
 file_form_of (key word.Attribute ∷ xs) = option_map attribute (attribute_of xs)
@@ -263,6 +269,7 @@ abbrev pub end_of : List Lexeme → Option (Unit {0})
 end_of [] = Some tt
 end_of xs = None
 
+-- what the words of a statement of a module on this line say, where they are one
 abbrev pub module_form_of : ℕ → List Lexeme → Option ModuleForm
 module_form_of line (key word.Attribute ∷ xs) = option_map attribute_in (attribute_of xs)
 module_form_of line (key word.Parameter ∷ xs) = option_map parameter (module_parameter_of line xs)
@@ -300,6 +307,7 @@ abbrev pub port_connect_of : List Lexeme → Option CellForm
 port_connect_of (id port ∷ xs) = only_signal xs >>= λ s. Some (port_connect port s)
 port_connect_of xs = None
 
+-- what the words of a statement of a cell on this line say, where they are one
 abbrev pub cell_form_of : ℕ → List Lexeme → Option CellForm
 cell_form_of line (key word.Connect ∷ xs) = port_connect_of xs
 cell_form_of line (key word.Parameter ∷ xs) = option_map cell_parameter (cell_parameter_of line xs)

@@ -2,14 +2,11 @@ pub mod Names
 pub mod Lexemes
 pub mod Statements
 pub mod Lines
-pub mod Parts
 pub mod Text
 pub mod Refusals
 pub mod Said
 pub mod Forms
 pub mod Machine
-pub mod Seen
-pub mod Cursor
-pub mod Reading
 pub mod Placed
+pub mod Inner
 pub mod Answers

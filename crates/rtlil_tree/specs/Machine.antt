@@ -5,8 +5,6 @@ use Rattle.rtlil_lex.specs.declared.token.TokenKind.TheVariants as kind
 use Rattle.rtlil_tree.specs.Names.{is_among, wire_names, cell_names, port_names, module_names}
 use Rattle.circuit_types.specs.declared.refusal.Refusal.{Refusal}
 use Rattle.circuit_types.specs.declared.refusal.Refusal.TheVariants.{BadForm, UnsupportedStatement}
-use Rattle.circuit_types.specs.declared.refusal.Stop.{Stop}
-use Rattle.circuit_types.specs.declared.refusal.Stop.TheVariants as stop
 use Rattle.circuit_types.specs.declared.signal.Signal.{Signal}
 use Rattle.circuit_types.specs.declared.tree.Tree.{Tree}
 use Rattle.circuit_types.specs.declared.tree.Module.{Module}
@@ -70,6 +68,7 @@ module_begun line name attributes = record { line = line; name = name; attribute
 abbrev pub cell_begun : ℕ → List ℕ → List ℕ → List Attribute → Cell
 cell_begun line kind name attributes = record { line = line; kind = kind; name = name; attributes = attributes; parameters = []; connects = [] }
 
+-- the wire of a wire statement on this line, with the attributes before it
 abbrev pub wire_made : ℕ → List Attribute → WireForm → Wire
 wire_made line attributes w = record { line = line; name = w.name; attributes = attributes; width = w.options.width; offset = w.options.offset; port = w.port; upto = w.options.upto; signed = w.options.signed }
 
@@ -117,8 +116,3 @@ finish end_line s = bad_form end_line
 unfoldable pub run : ℕ → State → List Line → Result Tree Refusal
 run end_line s [] = finish end_line s
 run end_line s (line ∷ lines) = elim (step s line) [ Ok t ↦ run end_line t lines | Err r ↦ Err r ]
-
--- What a function answers where this is due: a refusal is due, unless memory ran out.
-abbrev pub IsStop : Stop → Result Tree Refusal → Type 0
-IsStop stop.NoMemory due = Unit {0}
-IsStop (stop.Refused r) due = due ≡ Err r

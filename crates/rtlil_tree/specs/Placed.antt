@@ -14,6 +14,7 @@ use Rattle.rtlil_tree.specs.Forms.{FileForm, WireForm, ModuleForm, CellForm}
 abbrev pub IsFormed : Spelled → Type 0
 IsFormed t = HasForm t.kind t.text
 
+-- each of the tokens has the form of its kind
 abbrev pub AreFormed : List Spelled → Type 0
 AreFormed ts = AllByRecursion IsFormed ts
 

@@ -43,10 +43,7 @@ pub record IsModulePlace (before : List Line) : Type 0 where
   pub is_wire : BeginsWith (key Wire) some.tokens
   pub could : CanGoOn (before ++ some ∷ [])
 
-abbrev pub is_inout : WireOption → Bool
-is_inout (Inout z) = true
-is_inout option = false
-
+-- an option that a wire may have
 abbrev pub is_supported : WireOption → Bool
 is_supported (Inout z) = false
 is_supported option = true

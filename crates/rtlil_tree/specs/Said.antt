@@ -124,6 +124,7 @@ said kind.Str spelled = string_of spelled
 said (kind.Mark b) spelled = mark_of b
 said kind.Eol spelled = None
 
+-- what a token says, if it says anything
 abbrev pub said_by : Spelled → Option Lexeme
 said_by t = said t.kind t.text
 

@@ -98,6 +98,7 @@ with_option o (Inout z) = record o { inout = true }
 with_option o Upto = record o { upto = true }
 with_option o Signed = record o { signed = true }
 
+-- what the options of a wire say together, each after those before it
 abbrev pub options_said : List WireOption → Options
 options_said options = fold with_option no_options options
 

@@ -5,11 +5,11 @@ ghost use Rattle.std.specs.List.{list_any};
 ghost use Rattle.std.specs.Str.{bytes_eq};
 ghost use Rattle.circuit_types.specs.declared.tree.PortConnect.{PortConnect as AnyConnect};
 ghost use Rattle.rtlil_tree.specs.Names.{is_among, port_names};
-ghost use Rattle.rtlil_tree.specs.Seen.{HaveSameNames};
+ghost use Rattle.rtlil_tree.specs.Inner.Seen.{HaveSameNames};
 ghost use Rattle.rtlil_tree.specs.Said.{Gives};
 ghost use Rattle.rtlil_tree.specs.Forms.{cell_view, port_connect};
-ghost use Rattle.rtlil_tree.specs.Cursor.{line_view, GoesOn};
-ghost use Rattle.rtlil_tree.specs.Reading.{form_in_cell, late, HasItsPorts, ReadsCellLine, CellStepsTo, ReadsCell};
+ghost use Rattle.rtlil_tree.specs.Inner.Cursor.{line_view, GoesOn};
+ghost use Rattle.rtlil_tree.specs.Inner.Reading.{form_in_cell, late, HasItsPorts, ReadsCellLine, CellStepsTo, ReadsCell};
 
 use crate::line::Line;
 use crate::lines::Lines;

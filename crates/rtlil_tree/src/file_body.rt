@@ -3,8 +3,8 @@
 ghost use Rattle.std.specs.Prelude.{◌≡◌, [], OnOk};
 ghost use Rattle.rtlil_tree.specs.Said.{Gives};
 ghost use Rattle.rtlil_tree.specs.Forms.{file_view, begins};
-ghost use Rattle.rtlil_tree.specs.Cursor.{line_view, GoesOn, ReadsWhole};
-ghost use Rattle.rtlil_tree.specs.Reading.{form_in_file, HasItsModules, ReadsFileLine, FileRunsTo, ReadsFile};
+ghost use Rattle.rtlil_tree.specs.Inner.Cursor.{line_view, GoesOn, ReadsWhole};
+ghost use Rattle.rtlil_tree.specs.Inner.Reading.{form_in_file, HasItsModules, ReadsFileLine, FileRunsTo, ReadsFile};
 
 use crate::line::Line;
 use crate::lines::Lines;

@@ -38,6 +38,3 @@ pub use word_laws::{
     module_statements_are_read, signals_are_read, tokens_are_formed, tokens_are_read,
     wires_are_read,
 };
-
-#[cfg(test)]
-mod tests;

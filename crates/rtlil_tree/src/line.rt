@@ -3,7 +3,7 @@
 ghost use Rattle.std.specs.Prelude.{◌≡◌, ◌≤◌, length, map};
 ghost use Rattle.std.specs.List.{prefix_len};
 ghost use Rattle.rtlil_tree.specs.Lines.{is_eol};
-ghost use Rattle.rtlil_tree.specs.Cursor.{is_inner, line_view};
+ghost use Rattle.rtlil_tree.specs.Inner.Cursor.{is_inner, line_view};
 ghost use Rattle.rtlil_tree.specs.Said.{Gives, plain, lexemes_of};
 ghost use Rattle.rtlil_tree.specs.Machine.{is_foreign, is_foreign_token};
 

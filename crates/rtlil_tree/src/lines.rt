@@ -27,7 +27,7 @@ pub struct Lines<'a> {
 
 impl<'a> Lines<'a> {
     ghost use Rattle.std.specs.Prelude.{true, false, IfOk, OnOk};
-    ghost use Rattle.rtlil_tree.specs.Cursor.{line_view, current_of, work_of, GoesOn, IsBegun, IsCut, IsLoaded, IsTaken};
+    ghost use Rattle.rtlil_tree.specs.Inner.Cursor.{line_view, current_of, work_of, GoesOn, IsBegun, IsCut, IsLoaded, IsTaken};
 
     pub fn new(alloc: Global, bytes: &'a [u8]) -> Lines<'a>
         requires { length bytes.now ≤ MOST_BYTES }

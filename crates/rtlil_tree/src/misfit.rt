@@ -4,8 +4,8 @@ ghost use Rattle.std.specs.Prelude.{◌≡◌};
 ghost use Rattle.rtlil_tree.specs.declared.misfit.Misfit.TheVariants.{NoMemory};
 ghost use Rattle.circuit_types.specs.declared.refusal.Refusal.TheVariants.{BadForm};
 ghost use Rattle.circuit_types.specs.declared.refusal.Stop.TheVariants.{Refused};
-ghost use Rattle.rtlil_tree.specs.Cursor.{part_stop};
-ghost use Rattle.rtlil_tree.specs.Reading.{stop_of, answer_at};
+ghost use Rattle.rtlil_tree.specs.Inner.Cursor.{part_stop};
+ghost use Rattle.rtlil_tree.specs.Inner.Reading.{stop_of, answer_at};
 
 use circuit_types::{Refusal, Stop};
 use rtlil_lex::LexFault;

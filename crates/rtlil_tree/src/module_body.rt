@@ -5,10 +5,10 @@ ghost use Rattle.circuit_types.specs.declared.refusal.Refusal.TheVariants.{BadFo
 ghost use Rattle.circuit_types.specs.declared.refusal.Stop.TheVariants.{Refused};
 ghost use Rattle.rtlil_tree.specs.Said.{Gives};
 ghost use Rattle.rtlil_tree.specs.Forms.{module_view, wire_view, parameter, wire, cell_begins, connect};
-ghost use Rattle.rtlil_tree.specs.Cursor.{line_view, GoesOn};
+ghost use Rattle.rtlil_tree.specs.Inner.Cursor.{line_view, GoesOn};
 ghost use Rattle.rtlil_tree.specs.Machine.{has_some};
-ghost use Rattle.rtlil_tree.specs.Reading.{form_in_module, HasItsNames, ReadsModuleLine};
-ghost use Rattle.rtlil_tree.specs.Reading.{ModuleStepsTo, ModuleRunsTo, ReadsModule};
+ghost use Rattle.rtlil_tree.specs.Inner.Reading.{form_in_module, HasItsNames, ReadsModuleLine};
+ghost use Rattle.rtlil_tree.specs.Inner.Reading.{ModuleStepsTo, ModuleRunsTo, ReadsModule};
 
 use crate::cell_body::{CellBody, read_cell_body};
 use crate::line::Line;

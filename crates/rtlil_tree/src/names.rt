@@ -2,7 +2,7 @@
 
 ghost use Rattle.std.specs.Prelude.{◌≡◌, [], not, IfOk, OnOk};
 ghost use Rattle.rtlil_tree.specs.Names.{is_among};
-ghost use Rattle.rtlil_tree.specs.Seen.{HasOneMore};
+ghost use Rattle.rtlil_tree.specs.Inner.Seen.{HasOneMore};
 
 use name_table::NameTable;
 use std::alloc::{AllocError, Global};

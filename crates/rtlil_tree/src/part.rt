@@ -5,7 +5,7 @@ ghost use Rattle.std.specs.List.{All, prefix_len};
 ghost use Rattle.std.proofs.Props.{props};
 ghost use Rattle.rtlil_lex.specs.Bytes.{is_inline};
 ghost use Rattle.rtlil_lex.specs.declared.cursor.TheConstants.{MOST_BYTES};
-ghost use Rattle.rtlil_tree.specs.Parts.{BeginsLine};
+ghost use Rattle.rtlil_tree.specs.Inner.Parts.{BeginsLine};
 
 use crate::line::{Line, line_size};
 use rtlil_lex::{LexFault, Token, lex};
@@ -62,8 +62,8 @@ pub fn part_size(bytes: &[u8]) -> usize
 impl<'a> Part<'a> {
     ghost use Rattle.std.specs.Prelude.{[], ◌∷◌, IfOk, IfErr, IsTrue};
     ghost use Rattle.rtlil_lex.specs.Tokens.{HasFault};
-    ghost use Rattle.rtlil_tree.specs.Cursor.{line_view, last_line, current_of, left_in, tokens_left};
-    ghost use Rattle.rtlil_tree.specs.Cursor.{IsPartOf, IsTakenIn};
+    ghost use Rattle.rtlil_tree.specs.Inner.Cursor.{line_view, last_line, current_of, left_in, tokens_left};
+    ghost use Rattle.rtlil_tree.specs.Inner.Cursor.{IsPartOf, IsTakenIn};
 
     /// No lines.
     pub fn none(alloc: Global) -> Part<'a>

@@ -8,7 +8,7 @@ ghost use Rattle.circuit_types.specs.declared.refusal.Refusal.{Refusal};
 ghost use Rattle.circuit_types.specs.declared.tree.Tree.{Tree};
 ghost use Rattle.rtlil_tree.specs.Text.{Stands};
 ghost use Rattle.rtlil_tree.specs.Refusals.{IsRefused};
-ghost use Rattle.rtlil_tree.specs.Reading.{ReadsText, IsDueFor, fault_stop, topped};
+ghost use Rattle.rtlil_tree.specs.Inner.Reading.{ReadsText, IsDueFor, fault_stop, topped};
 ghost use Rattle.rtlil_tree.specs.Answers.{StandsWithTop, HasStop, AnswersTree, AnswersRefusal};
 
 use crate::file_body::read_file;

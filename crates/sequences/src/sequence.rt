@@ -43,17 +43,3 @@ impl<T> Sequence<T> {
         self.elements.as_slice()
     }
 }
-
-#[cfg(test)]
-mod tests {
-    use super::*;
-    use std::test::Fail;
-
-    #[test]
-    fn gives_back_what_it_was_made_of(rt: HostRuntime) -> Result<(), Fail> {
-        let sequence = Sequence::from_vec(vec![in rt.alloc(); 3u32, 1, 4]?);
-        assert_eq!(rt; sequence.as_slice(), [3u32, 1, 4].as_slice());
-        assert_eq!(rt; sequence.into_vec().as_slice(), [3u32, 1, 4].as_slice());
-        Ok(())
-    }
-}

@@ -17,7 +17,4 @@ mod secrets;
 mod shares;
 
 pub use laws::{limits, notes_and_texts, one_refusal};
-pub use ports::roles;
-
-#[cfg(test)]
-mod tests;
+pub use ports::{roles, roles_of};

@@ -16,7 +16,7 @@ use Rattle.expr_table.specs.Instance.{rows_of}
 use Rattle.expr_table.specs.Table.{Table, IsTable, IsRowOf, terms, term_at, nodes_of}
 use Rattle.expr_table.specs.Term.{Term}
 use Rattle.expr_table.specs.Values.{eval}
-use Rattle.expr_table.proofs.Facts.{place_of-row}
+use Rattle.expr_table.proofs.Facts.{row_with-row}
 use Rattle.term_build.specs.Laws.{OneInstance, TermsHaveValues, root_values, world_of}
 use Rattle.term_build.specs.SourceTerms.{source_term}
 use Rattle.term_build.specs.TermInstance.{HasRoots}
@@ -49,7 +49,7 @@ rows-same : (t : Table) → IsTable t → (term : Source → Term) (xs ys : List
     → AllZip (λ row s. IsRowOf t.nodes row (term s)) (map (λ (row : Row). row.0) xs) ss → AllZip (λ row s. IsRowOf t.nodes row (term s)) (map (λ (row : Row). row.0) ys) ss → xs ≡ ys
 rows-same t table term [] [] [] a b = refl
 rows-same t table term (x ∷ xs) (y ∷ ys) (s ∷ ss) a b =
-    let first : x.0 ≡ y.0 = sym (place_of-row t table x.0 (term s) a.0) ∙ place_of-row t table y.0 (term s) b.0 in
+    let first : x.0 ≡ y.0 = sym (row_with-row t table x.0 (term s) a.0) ∙ row_with-row t table y.0 (term s) b.0 in
     let more = rows-same t table term xs ys ss a.1 b.1 in
     λ i. (record { 0 = first i }) ∷ more i
 rows-same t table term [] (y ∷ ys) [] a b = absurd b

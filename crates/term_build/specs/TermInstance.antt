@@ -53,10 +53,11 @@ abbrev pub with_terms : List Term → List Term → List Term
 with_terms ts [] = ts
 with_terms ts (t ∷ more) = with_terms (with_term ts t) more
 
--- how many input leaves and random leaves there are
+-- how many input leaves there are
 abbrev pub input_count : Notion → Roles → Circuit → ℕ
 input_count notion roles circuit = length (input_leaves (inputs_of notion) roles circuit.timing)
 
+-- how many random leaves there are
 abbrev pub random_count : Notion → Roles → Circuit → ℕ
 random_count notion roles circuit = length (random_leaves (inputs_of notion) roles circuit.timing)
 

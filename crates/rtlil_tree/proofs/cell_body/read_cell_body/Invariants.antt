@@ -1,4 +1,4 @@
-use Rattle.rtlil_tree.specs.Cursor.{work_of}
+use Rattle.rtlil_tree.specs.Inner.Cursor.{work_of}
 use Rattle.rtlil_tree.proofs.CellMoves.{CellSoFar}
 use Rattle.rtlil_tree.proofs.cell_body.read_cell_body.Given as goal
 

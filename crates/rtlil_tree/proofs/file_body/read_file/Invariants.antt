@@ -1,4 +1,4 @@
-use Rattle.rtlil_tree.specs.Cursor.{work_of}
+use Rattle.rtlil_tree.specs.Inner.Cursor.{work_of}
 use Rattle.rtlil_tree.proofs.FileMoves.{FileSoFar}
 use Rattle.rtlil_tree.proofs.file_body.read_file.Given as goal
 

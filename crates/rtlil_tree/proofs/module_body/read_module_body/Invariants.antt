@@ -1,4 +1,4 @@
-use Rattle.rtlil_tree.specs.Cursor.{work_of}
+use Rattle.rtlil_tree.specs.Inner.Cursor.{work_of}
 use Rattle.rtlil_tree.proofs.ModuleMoves.{ModuleSoFar}
 use Rattle.rtlil_tree.proofs.module_body.read_module_body.Given as goal
 

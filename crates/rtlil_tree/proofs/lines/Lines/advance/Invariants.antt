@@ -1,4 +1,4 @@
-use Rattle.rtlil_tree.specs.Cursor.{work_of}
+use Rattle.rtlil_tree.specs.Inner.Cursor.{work_of}
 use Rattle.rtlil_tree.proofs.LoadMoves.{LinesSoFar}
 use Rattle.rtlil_tree.proofs.lines.Lines.advance.Given as goal
 

@@ -1,6 +1,6 @@
 use Rattle.std.proofs.Common.{refl}
 use Rattle.std.proofs.Math.Nat.{le_of_lt}
-use Rattle.rtlil_tree.specs.Cursor.{left_of, IsLoaded}
+use Rattle.rtlil_tree.specs.Inner.Cursor.{left_of, IsLoaded}
 use Rattle.rtlil_tree.proofs.PartLemmas.{next_line, next_begins, part_left, part_fails, tokens_on, less_work}
 use Rattle.rtlil_tree.proofs.lines.Lines.load.Goals as goal
 

@@ -1,6 +1,6 @@
 use Rattle.std.proofs.Common.{List, ◌++◌, refl, ap}
 use Rattle.rtlil_tree.specs.Lines as text
-use Rattle.rtlil_tree.specs.Cursor.{left_of}
+use Rattle.rtlil_tree.specs.Inner.Cursor.{left_of}
 use Rattle.rtlil_tree.proofs.lines.Lines.new.Goals as goal
 
 pub returns : goal.returns

@@ -1,5 +1,5 @@
 use Rattle.std.proofs.Common.{◌≡◌, ◌≤◌}
-use Rattle.rtlil_tree.specs.Cursor.{left_in, tokens_left}
+use Rattle.rtlil_tree.specs.Inner.Cursor.{left_in, tokens_left}
 use Rattle.rtlil_tree.proofs.part.Part.advance.Given as goal
 
 abbrev pub invariant-loop-self : goal.invariant-loop-self

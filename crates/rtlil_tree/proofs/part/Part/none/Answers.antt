@@ -1,8 +1,8 @@
 use Rattle.std.proofs.Common.{List, [], ap}
 use Rattle.rtlil_lex.specs.declared.token.Token.{Token}
 use Rattle.rtlil_tree.specs.Lines.{lines_of}
-use Rattle.rtlil_tree.specs.Parts.{moved}
-use Rattle.rtlil_tree.specs.Cursor.{left_in}
+use Rattle.rtlil_tree.specs.Inner.Parts.{moved}
+use Rattle.rtlil_tree.specs.Inner.Cursor.{left_in}
 use Rattle.rtlil_tree.proofs.part.Part.none.Goals as goal
 
 pub returns : goal.returns

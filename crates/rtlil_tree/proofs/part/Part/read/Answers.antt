@@ -1,5 +1,5 @@
 use Rattle.std.proofs.Common.{refl, arith}
-use Rattle.rtlil_tree.specs.Cursor.{left_in}
+use Rattle.rtlil_tree.specs.Inner.Cursor.{left_in}
 use Rattle.rtlil_tree.proofs.PartLemmas.{numbers_fit}
 use Rattle.rtlil_tree.proofs.part.Part.read.Goals as goal
 

@@ -1,6 +1,6 @@
 use Rattle.std.proofs.Common.{arith, ap, ◌∙◌, drop}
 use Rattle.std.proofs.lemmas.List.{take_rest}
-use Rattle.rtlil_tree.specs.Cursor.{left_in}
+use Rattle.rtlil_tree.specs.Inner.Cursor.{left_in}
 use Rattle.rtlil_tree.proofs.CursorLemmas.{some_moves, none_moves}
 use Rattle.rtlil_tree.proofs.part.Part.step.Goals as goal
 

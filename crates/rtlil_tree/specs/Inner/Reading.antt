@@ -30,11 +30,11 @@ use Rattle.rtlil_tree.specs.declared.cell_body.CellBody.{CellBody}
 use Rattle.rtlil_tree.specs.declared.module_body.ModuleBody.{ModuleBody}
 use Rattle.rtlil_tree.specs.declared.file_body.FileBody.{FileBody}
 use Rattle.rtlil_tree.specs.Names.{wire_names, cell_names, port_names, module_names}
-use Rattle.rtlil_tree.specs.Seen.{HaveSameNames}
+use Rattle.rtlil_tree.specs.Inner.Seen.{HaveSameNames}
 use Rattle.rtlil_tree.specs.Lines as text
 use Rattle.rtlil_tree.specs.Lines.{lines_of}
-use Rattle.rtlil_tree.specs.Parts.{HasTokens}
-use Rattle.rtlil_tree.specs.Cursor.{line_view, Rest, IsRest, left_of}
+use Rattle.rtlil_tree.specs.Inner.Parts.{HasTokens}
+use Rattle.rtlil_tree.specs.Inner.Cursor.{line_view, Rest, IsRest, left_of}
 use Rattle.rtlil_tree.specs.Said.{◌>>=◌, lexemes_of}
 use Rattle.rtlil_tree.specs.Forms.{file_form_of, module_form_of, cell_form_of, file_view, module_view, cell_view, FileForm, ModuleForm, CellForm}
 use Rattle.rtlil_tree.specs.Machine.{State, start, file, inside, within, step, file_step, module_step, cell_step, with_items, run}

@@ -12,7 +12,7 @@ use Rattle.rtlil_tree.specs.declared.part.Part.{Part}
 use Rattle.rtlil_tree.specs.declared.lines.Lines.{Lines}
 use Rattle.rtlil_tree.specs.Lines as text
 use Rattle.rtlil_tree.specs.Lines.{spelled, lines_of, is_eol}
-use Rattle.rtlil_tree.specs.Parts.{IsPart, moved, AreAhead, HasTokens}
+use Rattle.rtlil_tree.specs.Inner.Parts.{IsPart, moved, AreAhead, HasTokens}
 
 abbrev pub is_inner : Token → Bool
 is_inner t = not (is_eol t.kind)
