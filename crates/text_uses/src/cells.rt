@@ -22,7 +22,7 @@ fn check_gate(rt: &impl Abort, row: Row) -> Result<(), Fail> {
     }
 }
 
-#[tactic(auto, unfolding(crate::specs::Cells::input_letters))]
+#[tactic(auto, unfolding(cell_kinds::specs::Cells::input_letters))]
 fn check_values(rt: &impl Abort, gate: GateKind, row: Row) -> Result<(), Fail> {
     for number in 0u8..16 {
         let bits = [
