@@ -43,7 +43,7 @@ fn reads_its_members_in_order(rt: HostRuntime) -> Result<(), Fail> {
 }
 
 #[test]
-#[tactic(auto, using(crate::proofs::Facts::lengths))]
+#[tactic(auto, using(bit_rows::proofs::Facts::lengths))]
 fn joins_and_cuts_sets_of_any_length(rt: HostRuntime) -> Result<(), Fail> {
     // the length; how many numbers below it are multiples of 2, of 3, of both, of either, of 3 alone
     let cases = [

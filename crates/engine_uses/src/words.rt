@@ -1,7 +1,7 @@
 //! The words between seats, in one thread and in several.
 
 ghost use Rattle.std.specs.Prelude.{◌≡◌};
-ghost use Rattle.open_count.specs.Seats.{IsSeatOf};
+ghost use Rattle.open_count.specs.Seats.{IsCountSeatOf};
 
 use open_count::{CountSeat, CountTable};
 use std::test::Fail;
@@ -42,8 +42,8 @@ fn seats_see_each_other(rt: HostRuntime) -> Result<(), Fail> {
 
 // Splits a family into three and closes two, three thousand times, and fails the ranks from 3039 down to 40.
 fn work(table: &CountTable, mut seat: CountSeat) -> CountSeat
-    requires { IsSeatOf table.now seat }
-    ensures { IsSeatOf table.now result }
+    requires { IsCountSeatOf table.now seat }
+    ensures { IsCountSeatOf table.now result }
 {
     for round in 0..3000 {
         table.split(&mut seat, 3);
